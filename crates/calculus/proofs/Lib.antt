@@ -1,0 +1,4 @@
+pub mod Ints
+pub mod Divisors
+pub mod Reduction
+pub mod Answering

@@ -1,0 +1,94 @@
+-- Laws of the definitions, in the subject's words. Functions of src/laws.rt name them, so that each is proved.
+use Prim.Native.Nat.{ℕ, _-_, _<_, _≤_, _∣_}
+use mathlib.Core.Bool.{Bool, true, _&&_}
+use mathlib.Core.List.{List, [], _∷_, _++_, map}
+use mathlib.Core.Path.{_≡_}
+use lib.Dec.{leb}
+use lib.IntN.{ℤ, pos, natAbs, _+ℤ_, _*ℤ_}
+use lib.ListN.{length, getD}
+use lib.Signed.{_≤ℤ_, _<ℤ_}
+use Rattle.std.specs.Iters.{counting}
+use Rattle.std.specs.shelf.Lists.{All}
+use Rattle.std.specs.declared.result.Result.the-variants.{Err}
+use Rattle.calculus.specs.Account.{Account, Test, answered, declare-tests, add-tests, with-mark, returned}
+use Rattle.calculus.specs.Arithmetic.{floor, ceiling, divisor, common}
+use Rattle.calculus.specs.Refusals.{listed, all-refusals}
+use Rattle.calculus.specs.Rows.{Row, Standing, coef, Meets, row-divisor, reduced, double, same-row}
+use Rattle.calculus.specs.declared.ranges.Range.{Range}
+use Rattle.calculus.specs.declared.refusals.Refusal.{Refusal}
+use Rattle.calculus.specs.declared.refusals.Refusal.the-variants.{Shape}
+
+-- the floor is the last whole number whose k-fold is at most z
+abbrev pub Floor-rounds-down : Type 0
+Floor-rounds-down = (z : ℤ) (k : ℕ) → 0 < k →
+    ((pos k *ℤ floor z k) ≤ℤ z) × (z <ℤ (pos k *ℤ (floor z k +ℤ pos 1)))
+
+-- the ceiling is the first whole number whose k-fold is at least z
+abbrev pub Ceiling-rounds-up : Type 0
+Ceiling-rounds-up = (z : ℤ) (k : ℕ) → 0 < k →
+    (z ≤ℤ (pos k *ℤ ceiling z k)) × ((pos k *ℤ ceiling z k) <ℤ (z +ℤ pos k))
+
+-- the divisor divides both numbers
+abbrev pub Divides-both : Type 0
+Divides-both = (a b : ℕ) → (divisor a b ∣ a) × (divisor a b ∣ b)
+
+-- whatever divides both numbers divides the divisor
+abbrev pub Greatest : Type 0
+Greatest = (d a b : ℕ) → d ∣ a → d ∣ b → d ∣ divisor a b
+
+-- the common divisor of a list divides each of its numbers, and whatever divides each of them divides it
+abbrev pub Common-divides : Type 0
+Common-divides = (cs : List ℤ) → All (λ c. common cs ∣ natAbs c) cs
+
+abbrev pub Common-greatest : Type 0
+Common-greatest = (d : ℕ) (cs : List ℤ) → All (λ c. d ∣ natAbs c) cs → d ∣ common cs
+
+-- the coefficients of a row are those of its reduced form, times the row's divisor
+abbrev pub Reduced-divides : Type 0
+Reduced-divides = (r : Row) (i : ℕ) → pos (row-divisor (r .coefs)) *ℤ coef (reduced r .coefs) i ≡ coef (r .coefs) i
+
+-- the same assignments meet a row and its reduced form
+abbrev pub Reduced-same : Type 0
+Reduced-same = (xs : List ℤ) (r : Row) → (Meets xs r → Meets xs (reduced r)) × (Meets xs (reduced r) → Meets xs r)
+
+-- a row without a coefficient is its own reduced form
+abbrev pub Reduced-plain : Type 0
+Reduced-plain = (r : Row) → All (λ c. c ≡ pos 0) (r .coefs) → reduced r ≡ r
+
+-- a row is a double of another just where their reduced forms are equal, and then the same assignments meet both
+abbrev pub Double-decides : Type 0
+Double-decides = (s t : Standing) →
+    (double s t ≡ true → reduced (s .row) ≡ reduced (t .row)) × (reduced (s .row) ≡ reduced (t .row) → double s t ≡ true)
+
+-- the refusals are numbered from 1 on, in the order of the table, without a gap
+abbrev pub Numbered : Type 0
+Numbered = map (λ r. listed r .number) all-refusals ≡ counting 1 (length all-refusals)
+
+-- every refusal stands in the table at the place of its number, so that no two have one number
+abbrev pub Each-listed : Type 0
+Each-listed = (r : Refusal) → getD all-refusals (listed r .number - 1) Shape ≡ r
+
+-- the numbers of a list of tests rise
+abbrev pub rising : ℕ → List Test → Bool
+rising n [] = true
+rising n (t ∷ ts) = leb n (listed (t .refusal) .number) && rising (listed (t .refusal) .number) ts
+
+-- where several refusals apply, the answer has the smallest number
+abbrev pub Smallest-first : Type 0
+Smallest-first = (ts : List Test) (r : Refusal) → rising 0 ts ≡ true → answered {A = Unit {0}} ts tt ≡ Err r →
+    All (λ t. t .applies ≡ true → listed r .number ≤ listed (t .refusal) .number) ts
+
+-- the tests of declaring and adding rise
+abbrev pub Tests-rise : Type 0
+Tests-rise =
+    ((ranges : List Range) (low high : ℤ) → rising 0 (declare-tests ranges low high) ≡ true)
+    × ((a : Account) (label : ℕ) (cs : List ℤ) (k : ℤ) → rising 0 (add-tests a label cs k) ≡ true)
+
+-- whatever rows were added since a mark, returning to it gives back the account as it was before the mark
+abbrev pub Return-undoes : Type 0
+Return-undoes = (a : Account) (since : List Standing) →
+    returned (record {
+      ranges = a .ranges;
+      rows = a .rows ++ since;
+      marks = with-mark a .marks;
+    }) ≡ a

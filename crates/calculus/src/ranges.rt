@@ -1,0 +1,6 @@
+// The values that an unknown may take: from low to high, both ends included.
+#[derive(Clone, Copy, PartialEq, Eq, Debug)]
+pub struct Range {
+    pub low: i32,
+    pub high: i32,
+}

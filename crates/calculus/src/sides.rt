@@ -1,0 +1,6 @@
+// One of the two ends of a range.
+#[derive(Clone, Copy, PartialEq, Eq, Debug)]
+pub enum Side {
+    Low,
+    High,
+}

@@ -1,0 +1,3 @@
+mod Cutting
+mod Printing
+mod Turning

@@ -1,0 +1,9 @@
+// A day script, run: each line read, its command done through the ticket, its answer worded.
+mod commands;
+mod lines;
+mod scripts;
+mod stages;
+
+pub use scripts::Stop;
+pub use scripts::StopDisplay;
+pub use scripts::run_script;

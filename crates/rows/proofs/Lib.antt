@@ -1,0 +1,3 @@
+mod Coefficients
+pub mod Flat
+pub mod Counts

@@ -1,0 +1,8 @@
+use mathlib.Core.Path.{_≡_}
+use lib.IntN.{natAbs}
+use lib.ListN.{take}
+use Rattle.calculus.specs.Arithmetic.{common}
+use Rattle.rows.proofs.forms.divisor_of.Given as given
+
+abbrev pub Inv-loop-c : given.InvT-loop-c
+Inv-loop-c l = l .common ≡ common (take (l .c-index) (l .coefficients))

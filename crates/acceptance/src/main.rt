@@ -9,7 +9,7 @@ mod questions;
 use cases::Case;
 use questions::answers_hold;
 use std::error::AnyError;
-use std::fs;
+use std::io::Read;
 
 // How many cases ran, and how many came out wrong.
 #[derive(Drop)]
@@ -48,11 +48,10 @@ fn judge(rt: &LibcRuntime, tally: &mut Tally, case: &Case) -> Result<(), AnyErro
     Ok(())
 }
 
-// Runs the cases of a file, each from a line `= NAME` to the next.
-fn run_file(rt: &LibcRuntime, tally: &mut Tally, path: &str) -> Result<(), AnyError> {
-    let text = fs::read_to_string(rt, path)?;
+// Runs the cases of a table, each from a line `= NAME` to the next.
+fn run_table(rt: &LibcRuntime, tally: &mut Tally, table: &str) -> Result<(), AnyError> {
     let mut case = Case::new(rt.alloc());
-    for line in text.as_str().lines() {
+    for line in table.lines() {
         if line.starts_with("= ") {
             judge(rt, tally, &case)?;
             case = Case::new(rt.alloc());
@@ -62,10 +61,12 @@ fn run_file(rt: &LibcRuntime, tally: &mut Tally, path: &str) -> Result<(), AnyEr
     judge(rt, tally, &case)
 }
 
+// Runs the table of standard input, and the questions that no script asks.
 fn run(rt: &LibcRuntime) -> Result<(), AnyError> {
+    let mut table = String::new(rt.alloc());
+    let _ = rt.stdin().read_to_string(&mut table)?;
     let mut tally = Tally { run: 0, wrong: 0 };
-    run_file(rt, &mut tally, "tickets.cases")?;
-    run_file(rt, &mut tally, "scripts.cases")?;
+    run_table(rt, &mut tally, table.as_str())?;
     tally.note(answers_hold(rt.alloc())?);
     let run = tally.run;
     let wrong = tally.wrong;

@@ -1,4 +1,5 @@
 pub mod Ints
 pub mod Divisors
 pub mod Reduction
+pub mod Meeting
 pub mod Answering

@@ -5,15 +5,15 @@ use mathlib.Core.List.{List, [], _∷_, _++_, map}
 use mathlib.Core.Path.{_≡_}
 use lib.Dec.{leb}
 use lib.IntN.{ℤ, pos, natAbs, _+ℤ_, _*ℤ_}
-use lib.ListN.{length, getD}
+use lib.ListN.{length, getD, take}
 use lib.Signed.{_≤ℤ_, _<ℤ_}
 use Rattle.std.specs.Iters.{counting}
-use Rattle.std.specs.shelf.Lists.{All}
+use Rattle.std.specs.shelf.Lists.{All, Has}
 use Rattle.std.specs.declared.result.Result.the-variants.{Err}
 use Rattle.calculus.specs.Account.{Account, Test, answered, declare-tests, add-tests, with-mark, returned}
 use Rattle.calculus.specs.Arithmetic.{floor, ceiling, divisor, common}
 use Rattle.calculus.specs.Refusals.{listed, all-refusals}
-use Rattle.calculus.specs.Rows.{Row, Standing, coef, Meets, row-divisor, reduced, double, same-row}
+use Rattle.calculus.specs.Rows.{Row, Standing, coef, Meets, Meets-all, Within, row-divisor, reduced, double}
 use Rattle.calculus.specs.declared.ranges.Range.{Range}
 use Rattle.calculus.specs.declared.refusals.Refusal.{Refusal}
 use Rattle.calculus.specs.declared.refusals.Refusal.the-variants.{Shape}
@@ -59,6 +59,39 @@ Reduced-plain = (r : Row) → All (λ c. c ≡ pos 0) (r .coefs) → reduced r �
 abbrev pub Double-decides : Type 0
 Double-decides = (s t : Standing) →
     (double s t ≡ true → reduced (s .row) ≡ reduced (t .row)) × (reduced (s .row) ≡ reduced (t .row) → double s t ≡ true)
+
+-- whoever meets a row meets its doubles: to refuse one loses nothing
+abbrev pub Double-same : Type 0
+Double-same =
+    (xs : List ℤ) (s t : Standing) → double s t ≡ true → (Meets xs (s .row) → Meets xs (t .row)) × (Meets xs (t .row) → Meets xs (s .row))
+
+-- an assignment lies within the ranges just where it has as many values and each lies in the range of its place
+abbrev pub Within-each : Type 0
+Within-each =
+    (rs : List Range) (xs : List ℤ) (d : Range) →
+    (Within rs xs → (length xs ≡ length rs) × ((i : ℕ) → i < length rs → (getD rs i d .low ≤ℤ coef xs i) × (coef xs i ≤ℤ getD rs i d .high)))
+    × (length xs ≡ length rs → ((i : ℕ) → i < length rs → (getD rs i d .low ≤ℤ coef xs i) × (coef xs i ≤ℤ getD rs i d .high)) → Within rs xs)
+
+-- an assignment meets all rows just where it meets the row at each place
+abbrev pub Meets-each : Type 0
+Meets-each =
+    (xs : List ℤ) (rows : List Standing) (d : Standing) →
+    (Meets-all xs rows → (i : ℕ) → i < length rows → Meets xs (getD rows i d .row))
+    × (((i : ℕ) → i < length rows → Meets xs (getD rows i d .row)) → Meets-all xs rows)
+
+-- an assignment meets rows put together just where it meets both parts
+abbrev pub Meets-together : Type 0
+Meets-together =
+    (xs : List ℤ) (rows more : List Standing) →
+    (Meets-all xs (rows ++ more) → Meets-all xs rows × Meets-all xs more)
+    × (Meets-all xs rows → Meets-all xs more → Meets-all xs (rows ++ more))
+
+-- whoever meets the rows meets any part of them: the first so many, or whichever are among them
+abbrev pub Meets-first : Type 0
+Meets-first = (xs : List ℤ) (k : ℕ) (rows : List Standing) → Meets-all xs rows → Meets-all xs (take k rows)
+
+abbrev pub Meets-part : Type 0
+Meets-part = (xs : List ℤ) (rows part : List Standing) → All (λ s. Has rows s) part → Meets-all xs rows → Meets-all xs part
 
 -- the refusals are numbered from 1 on, in the order of the table, without a gap
 abbrev pub Numbered : Type 0

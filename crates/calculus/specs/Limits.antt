@@ -1,4 +1,4 @@
--- The limits, each under its own name. The last four of the numbers are equal today and are still four rules.
+-- The limits, each under its own name. Four of them are 2^30 today and are still four rules.
 use Prim.Native.Nat.{ℕ}
 
 -- unknowns of a ticket
@@ -24,3 +24,23 @@ added-coefficient-limit = 32768
 -- the constant of an added row, above and below 0
 abbrev pub added-constant-limit : ℕ
 added-constant-limit = 1073741824
+
+-- a coefficient of a formed row (a sum or an open part), above and below 0
+abbrev pub formed-coefficient-limit : ℕ
+formed-coefficient-limit = 1073741824
+
+-- the constant of a formed row, above and below 0
+abbrev pub formed-constant-limit : ℕ
+formed-constant-limit = 1073741824
+
+-- a multiplier of a sum, or the divisor of a cut
+abbrev pub multiplier-limit : ℕ
+multiplier-limit = 1073741824
+
+-- entries of a trail
+abbrev pub most-entries : ℕ
+most-entries = 256
+
+-- lines of a log
+abbrev pub most-lines : ℕ
+most-lines = 65536

@@ -7,6 +7,7 @@ mod sides;
 
 pub use laws::account_stands;
 pub use laws::arithmetic_stands;
+pub use laws::meeting_stands;
 pub use laws::table_stands;
 pub use laws::worked_cases_stand;
 pub use limits::MAX_COEFFICIENT;

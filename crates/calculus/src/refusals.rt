@@ -3,7 +3,7 @@ ghost use Rattle.calculus.specs.Refusals.{listed};
 ghost use mathlib.Core.Path.{_≡_};
 
 // Why a call was refused.
-#[derive(Clone, Copy, PartialEq, Eq, Debug)]
+#[derive(Clone, Copy)]
 pub enum Refusal {
     Shape = 1,
     Range = 2,

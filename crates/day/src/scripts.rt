@@ -18,6 +18,7 @@ use rows::Rows;
 use script::Answer;
 use script::Command;
 use script::Expected;
+use script::ExpectedDisplay;
 use script::Fault;
 use script::read_command;
 use script::write_answer;
@@ -40,10 +41,7 @@ pub impl fmt::Display for Stop as StopDisplay {
     fn fmt<W: fmt::Write>(&self, f: &mut fmt::Formatter<W>) -> fmt::Result {
         match *self {
             Stop::Memory => f.write_str("no memory is left"),
-            Stop::Line { number, expected } => {
-                let words = expected.words();
-                write!(f, "line {number}: expected {words}")
-            }
+            Stop::Line { number, expected } => write!(f, "line {number}: expected {expected}"),
         }
     }
 }

@@ -1,6 +1,8 @@
 // Why a line is no command.
 ghost use Rattle.script.specs.Faults.{expected-words};
+ghost use Rattle.std.specs.declared.option.Option.the-variants.{Some};
 ghost use mathlib.Core.Path.{_≡_};
+use std::fmt;
 
 // What was expected where the reading stopped.
 #[derive(Clone, Copy)]
@@ -17,7 +19,7 @@ pub enum Expected {
 
 impl Expected {
     // The words for it.
-    pub fn words(self) -> &'static str
+    pub(crate) fn words(self) -> &'static str
         ensures { λ r. ⌜ now r ≡ expected-words self ⌝ }
     {
         match self {
@@ -28,6 +30,14 @@ impl Expected {
             Expected::Draft => "`draft` before this command",
             Expected::Ticket => "`settle` before this command",
         }
+    }
+}
+
+pub impl fmt::Display for Expected as ExpectedDisplay {
+    ghost shown = { λ e. Some (expected-words e) };
+
+    fn fmt<W: fmt::Write>(&self, f: &mut fmt::Formatter<W>) -> fmt::Result {
+        f.write_str(self.words())
     }
 }
 

@@ -15,7 +15,7 @@ pub enum Later {
 
 impl Later {
     // The word of the command.
-    pub fn word(self) -> &'static str
+    pub(crate) fn word(self) -> &'static str
         ensures { λ r. ⌜ now r ≡ later-word self ⌝ }
     {
         match self {

@@ -14,6 +14,7 @@ pub use answers::write_row;
 pub use commands::Command;
 pub use commands::read_command;
 pub use faults::Expected;
+pub use faults::ExpectedDisplay;
 pub use faults::Fault;
 pub use keywords::Later;
 pub use laws::reading_stands;

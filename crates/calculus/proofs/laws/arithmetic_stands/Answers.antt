@@ -1,5 +1,6 @@
 use Rattle.calculus.proofs.Divisors.{divides-both, greatest, common-divides, common-greatest}
 use Rattle.calculus.proofs.Ints.{floor-rounds, ceiling-rounds}
+use Rattle.calculus.proofs.Meeting.{double-same}
 use Rattle.calculus.proofs.Reduction.{reduced-divides, reduced-same, reduced-plain, double-decides}
 use Rattle.calculus.proofs.laws.arithmetic_stands.Needs as need
 
@@ -15,4 +16,5 @@ returns c = record {
   reduced-same = reduced-same;
   reduced-plain = reduced-plain;
   double-decides = double-decides;
+  double-same = double-same;
 }

@@ -1,8 +1,7 @@
-use mathlib.Core.List.{List, _++_}
-use lib.Chars.{codes}
-use mathlib.Core.Path.{_≡_, sym, ap, subst, _∙_}
+use mathlib.Core.List.{List}
+use mathlib.Core.Path.{_≡_, sym, ap, subst}
 use Prim.Native.Nat.{ℕ}
-use Rattle.std.specs.Written.{Put, decimal}
+use Rattle.std.specs.Written.{Put}
 use Rattle.day.specs.Scripts.{stop-worded}
 use Rattle.day.proofs.scripts.StopDisplay.fmt.Needs as need
 
@@ -14,5 +13,4 @@ returns-in-Memory g c plain ok =
 pub returns-in-Line : need.returns-in-Line
 returns-in-Line g c plain ok =
     subst (λ (bs : List ℕ). Put (g .W·Write .took) (c .args .f .now) bs (c .write .last .self))
-    (ap (λ (ws : List ℕ). codes "line " ++ (decimal (c .in-Line .number) ++ (codes ": expected " ++ ws))) (c .words-words .ensures)
-    ∙ ap stop-worded (sym (c .in-Line .is))) (c .write .ensures .shows plain ok)
+    (ap stop-worded (sym (c .in-Line .is))) (c .write .ensures .shows plain ok)

@@ -1,3 +1,4 @@
 mod Cutting
 mod Printing
 mod Turning
+mod Staying

@@ -1,3 +1,4 @@
 pub mod Lines
 pub mod Day
 pub mod Scripts
+pub mod Laws

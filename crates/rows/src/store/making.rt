@@ -26,7 +26,7 @@ fn is_bad_range(low: i32, high: i32) -> bool
 impl Blank {
     // No unknown yet, and memory for all that a ticket may hold. The one call that can want memory.
     pub fn new(heap: Global) -> Result<Blank, AllocError>
-        ensures { λ r. ⌜ made r (λ b. ranges-in b ≡ []) ⌝ }
+        ensures ranges { λ r. ⌜ made r (λ b. ranges-in b ≡ []) ⌝ }
     {
         let spans = Vec::with_capacity(heap, MAX_UNKNOWNS)?;
         let headers = Vec::with_capacity(heap, MAX_ROWS)?;

@@ -28,8 +28,9 @@ weighs cs k b f h = sym (simp toZ-ofZ at h)
 cast-back : (cs : List ℤ) (k : ℤ) → SFits w64 k → false ≡ (heavy cs || not (near added-constant-limit (toZ w64 (ofZ w64 k)))) →
     toZ w32 (ofZ w32 (toZ w64 (ofZ w64 k))) ≡ k
 cast-back cs k f h =
-    let parts = or-parts _ _ (weighs cs k false f h) in
-    let small = leb-true (natAbs k) added-constant-limit (not-false _ (parts .1)) in
+    let light : (heavy cs || not (near added-constant-limit k)) ≡ false = weighs cs k false f h in
+    let small : natAbs k ≤ added-constant-limit =
+    leb-true (natAbs k) added-constant-limit (not-false (near added-constant-limit k) (or-parts (heavy cs) (not (near added-constant-limit k)) light .1)) in
     omega (arith, ints)
 
 pub returns-then-coefficients-width : need.returns-then-coefficients-width

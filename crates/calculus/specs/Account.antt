@@ -27,9 +27,11 @@ pub record Test : Type 0 where
   pub applies : Bool
   pub refusal : Refusal
 
+-- a refusal that applies where a test holds
 abbrev pub when : Bool → Refusal → Test
 when b r = record { applies = b; refusal = r }
 
+-- a refusal where its test holds, and else whatever the others give
 abbrev pub refused-by : {A : Type 0} → Bool → Refusal → Result A Refusal → Result A Refusal
 refused-by true r others = Err r
 refused-by false r others = others
@@ -60,10 +62,11 @@ abbrev pub declare-tests : List Range → ℤ → ℤ → List Test
 declare-tests ranges low high =
     when (leb most-unknowns (length ranges)) Shape ∷ when (bad-range low high) BadRange ∷ []
 
--- the unknown's number, from 0
+-- what declaring is answered: the unknown's number, from 0
 abbrev pub declare-answer : List Range → ℤ → ℤ → Result ℕ Refusal
 declare-answer ranges low high = answered (declare-tests ranges low high) (length ranges)
 
+-- the ranges after it: one more, or as found
 abbrev pub declared : List Range → ℤ → ℤ → List Range
 declared ranges low high =
     left (declare-answer ranges low high) (ranges ++ record { low = low; high = high } ∷ []) ranges
@@ -74,6 +77,7 @@ declared ranges low high =
 abbrev pub settled : List Range → Account
 settled ranges = record { ranges = ranges; rows = []; marks = [] }
 
+-- a row under its label, as it is added
 abbrev pub standing : ℕ → List ℤ → ℤ → Standing
 standing label cs k = record { label = label; row = record { coefs = cs; constant = k } }
 
@@ -87,22 +91,27 @@ add-tests a label cs k =
     ∷ when (leb most-rows (length (a .rows))) Full
     ∷ []
 
+-- what adding a row is answered
 abbrev pub add-answer : Account → ℕ → List ℤ → ℤ → Result (Unit {0}) Refusal
 add-answer a label cs k = answered (add-tests a label cs k) tt
 
+-- one row more, after the others
 abbrev pub with-row : Account → Standing → Account
 with-row a s = record { ranges = a .ranges; rows = a .rows ++ s ∷ []; marks = a .marks }
 
+-- the account after an add
 abbrev pub added : Account → ℕ → List ℤ → ℤ → Account
 added a label cs k = left (add-answer a label cs k) (with-row a (standing label cs k)) a
 
--- setting a mark notes how many rows stand
+-- what a mark is answered: it is refused where as many stand as may
 abbrev pub mark-answer : Account → Result (Unit {0}) Refusal
 mark-answer a = answered (when (leb most-marks (length (a .marks))) Marks ∷ []) tt
 
+-- one mark more, at the rows that stand
 abbrev pub with-mark : Account → Account
 with-mark a = record { ranges = a .ranges; rows = a .rows; marks = length (a .rows) ∷ a .marks }
 
+-- the account after a mark
 abbrev pub marked : Account → Account
 marked a = left (mark-answer a) (with-mark a) a
 
@@ -111,13 +120,15 @@ abbrev pub empty : List ℕ → Bool
 empty [] = true
 empty (k ∷ ks) = false
 
--- returning drops the rows past the newest mark, and that mark
+-- what a return is answered: it is refused where no mark stands
 abbrev pub return-answer : Account → Result (Unit {0}) Refusal
 return-answer a = answered (when (empty (a .marks)) Unmarked ∷ []) tt
 
+-- the first rows alone, as many as the newest mark noted, and the older marks
 abbrev pub returned-to : List ℕ → Account → Account
 returned-to [] a = a
 returned-to (rows ∷ older) a = record { ranges = a .ranges; rows = take rows (a .rows); marks = older }
 
+-- the account after a return
 abbrev pub returned : Account → Account
 returned a = left (return-answer a) (returned-to (a .marks) a) a

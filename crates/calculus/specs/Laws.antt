@@ -5,14 +5,14 @@ use mathlib.Core.List.{List, [], _∷_, _++_, map}
 use mathlib.Core.Path.{_≡_}
 use lib.Dec.{leb}
 use lib.IntN.{ℤ, pos, natAbs, _+ℤ_, _*ℤ_}
-use lib.ListN.{length, getD, take}
+use lib.ListN.{length, getD, take, replicate}
 use lib.Signed.{_≤ℤ_, _<ℤ_}
 use Rattle.std.specs.Iters.{counting}
 use Rattle.std.specs.shelf.Lists.{All, Has}
 use Rattle.std.specs.declared.result.Result.the-variants.{Err}
 use Rattle.calculus.specs.Account.{Account, Test, answered, declare-tests, add-tests, with-mark, returned}
 use Rattle.calculus.specs.Arithmetic.{floor, ceiling, divisor, common}
-use Rattle.calculus.specs.Refusals.{listed, all-refusals}
+use Rattle.calculus.specs.Refusals.{nothing, moves, line, held, offset, listed, all-refusals}
 use Rattle.calculus.specs.Rows.{Row, Standing, coef, Meets, Meets-all, Within, row-divisor, reduced, double}
 use Rattle.calculus.specs.declared.ranges.Range.{Range}
 use Rattle.calculus.specs.declared.refusals.Refusal.{Refusal}
@@ -96,6 +96,12 @@ Meets-part = (xs : List ℤ) (rows part : List Standing) → All (λ s. Has rows
 -- the refusals are numbered from 1 on, in the order of the table, without a gap
 abbrev pub Numbered : Type 0
 Numbered = map (λ r. listed r .number) all-refusals ≡ counting 1 (length all-refusals)
+
+-- the first eight carry nothing, the next six moves, four the line, then one the lines held and one the byte offset
+abbrev pub Carried-listed : Type 0
+Carried-listed =
+    map (λ r. listed r .carried) all-refusals
+    ≡ replicate 8 nothing ++ (replicate 6 moves ++ (replicate 4 line ++ (held ∷ offset ∷ [])))
 
 -- every refusal stands in the table at the place of its number, so that no two have one number
 abbrev pub Each-listed : Type 0

@@ -2,7 +2,7 @@
 ghost use Rattle.calculus.specs.Laws.{Floor-rounds-down, Ceiling-rounds-up, Divides-both, Greatest, Common-divides, Common-greatest};
 ghost use Rattle.calculus.specs.Laws.{Reduced-divides, Reduced-same, Reduced-plain, Double-decides, Double-same};
 ghost use Rattle.calculus.specs.Laws.{Within-each, Meets-each, Meets-together, Meets-first, Meets-part};
-ghost use Rattle.calculus.specs.Laws.{Numbered, Each-listed, Smallest-first, Tests-rise, Return-undoes};
+ghost use Rattle.calculus.specs.Laws.{Numbered, Each-listed, Carried-listed, Smallest-first, Tests-rise, Return-undoes};
 ghost use Rattle.calculus.specs.Worked.{Reduces, Doubles, Rounds, Ends-included};
 
 // Rounding, the common divisor, and what a reduced form keeps.
@@ -33,6 +33,7 @@ pub fn meeting_stands()
 pub fn table_stands()
     ensures numbered { λ _. ⌜ Numbered ⌝ }
     ensures each_listed { λ _. ⌜ Each-listed ⌝ }
+    ensures carried_listed { λ _. ⌜ Carried-listed ⌝ }
 {}
 
 // The account of a day.

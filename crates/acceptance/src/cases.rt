@@ -10,7 +10,6 @@ use day::run_script;
 use std::alloc::AllocError;
 use std::alloc::Global;
 use std::error::AnyError;
-use std::fmt::Write;
 
 #[derive(Drop)]
 pub(crate) struct Case {
@@ -28,21 +27,25 @@ pub(crate) struct Found {
 }
 
 impl Found {
-    pub(crate) fn answers(&self) -> &str {
+    pub(crate) fn answers(&self) -> &str
+        ensures { λ r. ⌜ now r ≡ string-bytes (now (self .entry) .answers) ⌝ }
+    {
         self.answers.as_str()
     }
 
-    pub(crate) fn message(&self) -> &str {
+    pub(crate) fn message(&self) -> &str
+        ensures { λ r. ⌜ now r ≡ string-bytes (now (self .entry) .message) ⌝ }
+    {
         self.message.as_str()
     }
 }
 
-// Appends the text with the number for each `@`.
-fn push_counted(out: &mut String, text: &str, number: u32) -> Result<(), AnyError> {
+// Appends the text with the digits for each `@`.
+fn push_counted(out: &mut String, text: &str, digits: &str) -> Result<(), AllocError> {
     let mut first = true;
     for piece in text.split('@') {
         if !first {
-            write!(out, "{number}")?;
+            out.push_str(digits)?;
         }
         out.push_str(piece)?;
         first = false;
@@ -51,19 +54,22 @@ fn push_counted(out: &mut String, text: &str, number: u32) -> Result<(), AnyErro
 }
 
 // Appends what follows a mark: ` LINE`, `. LINE` or `*N LINE`.
-fn push_lines(out: &mut String, rest: &str) -> Result<(), AnyError> {
+fn push_lines(heap: Global, out: &mut String, rest: &str) -> Result<(), AnyError> {
     let Some((how, text)) = rest.split_once(' ') else {
         return Err("a line of a table has no text".into());
     };
     if how == "." {
-        return push_counted(out, text, 0);
+        out.push_str(text)?;
+        return Ok(());
     }
     let count = match how.strip_prefix('*') {
         Some(digits) => digits.parse::<u32>()?,
-        None => 1,
+        None if how.is_empty() => 1,
+        None => return Err("a line of a table begins with no mark".into()),
     };
     for number in 0..count {
-        push_counted(out, text, number)?;
+        let digits = number.to_string(heap)?;
+        push_counted(out, text, digits.as_str())?;
         out.push('\n')?;
     }
     Ok(())
@@ -79,7 +85,9 @@ impl Case {
         }
     }
 
-    pub(crate) fn name(&self) -> &str {
+    pub(crate) fn name(&self) -> &str
+        ensures { λ r. ⌜ now r ≡ string-bytes (now (self .entry) .name) ⌝ }
+    {
         self.name.as_str()
     }
 
@@ -88,15 +96,17 @@ impl Case {
     }
 
     // One line of a table.
-    pub(crate) fn take(&mut self, line: &str) -> Result<(), AnyError> {
+    pub(crate) fn take(&mut self, heap: Global, line: &str) -> Result<(), AnyError> {
         if let Some(name) = line.strip_prefix("= ") {
             self.name.push_str(name)?;
         } else if let Some(rest) = line.strip_prefix('>') {
-            push_lines(&mut self.script, rest)?;
+            push_lines(heap, &mut self.script, rest)?;
         } else if let Some(rest) = line.strip_prefix('<') {
-            push_lines(&mut self.answers, rest)?;
+            push_lines(heap, &mut self.answers, rest)?;
         } else if let Some(text) = line.strip_prefix("! ") {
             self.message.push_str(text)?;
+        } else if !line.is_empty() && !line.starts_with('#') {
+            return Err("a line of a table begins with no mark".into());
         }
         Ok(())
     }
@@ -114,6 +124,7 @@ impl Case {
     pub(crate) fn accepts(&self, found: &Found) -> bool
         ensures answers { λ r. ⌜ (r ≡ true → string-bytes (now (self .entry) .answers) ≡ string-bytes (now (found .entry) .answers)) ⌝ }
         ensures message { λ r. ⌜ (r ≡ true → string-bytes (now (self .entry) .message) ≡ string-bytes (now (found .entry) .message)) ⌝ }
+        ensures both { λ r. ⌜ (string-bytes (now (self .entry) .answers) ≡ string-bytes (now (found .entry) .answers) → string-bytes (now (self .entry) .message) ≡ string-bytes (now (found .entry) .message) → r ≡ true) ⌝ }
     {
         self.answers.as_str() == found.answers.as_str()
             && self.message.as_str() == found.message.as_str()

@@ -56,7 +56,7 @@ fn run_table(rt: &LibcRuntime, tally: &mut Tally, table: &str) -> Result<(), Any
             judge(rt, tally, &case)?;
             case = Case::new(rt.alloc());
         }
-        case.take(line)?;
+        case.take(rt.alloc(), line)?;
     }
     judge(rt, tally, &case)
 }

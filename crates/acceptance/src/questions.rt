@@ -1,5 +1,6 @@
 // The questions to a ticket, which a script does not ask.
 use calculus::Range;
+use calculus::RangePartialEq;
 use std::alloc::AllocError;
 use std::alloc::Global;
 use ticket::Draft;
@@ -19,9 +20,9 @@ fn sample(heap: Global) -> Result<Ticket, AllocError> {
     Ok(ticket)
 }
 
-fn is_range(found: Option<Range>, low: i32, high: i32) -> bool {
-    match found {
-        Some(range) => range.low == low && range.high == high,
+fn has_range(ticket: &Ticket, unknown: usize, low: i32, high: i32) -> bool {
+    match ticket.rows().range(unknown) {
+        Some(range) => range == Range { low, high },
         None => false,
     }
 }
@@ -41,8 +42,8 @@ pub(crate) fn answers_hold(heap: Global) -> Result<bool, AllocError> {
     let counts = ticket.rows().unknowns() == 2
         && ticket.rows().len() == 3
         && ticket.rows().marks() == 2;
-    let ranges = is_range(ticket.rows().range(0), -3, 7)
-        && is_range(ticket.rows().range(1), 1_048_576, 1_048_576)
+    let ranges = has_range(&ticket, 0, -3, 7)
+        && has_range(&ticket, 1, 1_048_576, 1_048_576)
         && ticket.rows().range(2).is_none();
     let rows = has_row(&ticket, 0, 5, &[1, -2], 3)
         && has_row(&ticket, 1, 255, &[32_768, -32_768], -1_073_741_824)

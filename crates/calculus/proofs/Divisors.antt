@@ -1,8 +1,8 @@
 -- The greatest common divisor: its two equations, and what it divides.
 use mathlib.Core.Path.{_≡_, refl, sym, ap, subst, _∙_}
 use mathlib.Core.List.{List, [], _∷_}
-use Prim.Native.Nat.{ℕ, zero, suc, _%_, _<_, _≤_, _∣_, max, zero-le, suc-le-suc}
-use native.Mathlib.Nat.{mod-lt, le-of-suc-le-suc, le-refl, not-suc-le-zero, dvd-refl, dvd-zero, dvd-mod-iff, dvd-trans, one-dvd}
+use Prim.Native.Nat.{ℕ, zero, suc, _%_, _<_, _≤_, _∣_, max}
+use native.Mathlib.Nat.{mod-lt, le-refl, not-suc-le-zero, dvd-refl, dvd-zero, dvd-mod-iff, dvd-trans, one-dvd}
 use native.Mathlib.Omega.{arith}
 use lib.IntN.{ℤ, pos, natAbs}
 use Rattle.std.specs.Iters.{folded}

@@ -1,10 +1,10 @@
 -- Laws of the whole numbers that the library lacks: products, orders, rounding.
-use mathlib.Core.Path.{_≡_, refl, sym, ap, _∙_}
-use Prim.Native.Nat.{ℕ, zero, suc, _+_, _*_, _/_, _%_, _<_, _≤_}
+use mathlib.Core.Path.{_≡_, ap}
+use Prim.Native.Nat.{ℕ, zero, suc, _*_, _/_, _<_}
 use native.Mathlib.Nat.{div-add-mod, mod-lt, mul-le-mul-left, div-one}
 use native.Mathlib.Omega.{arith}
-use borrow.Author.Differences.{ints, same-in, up, down, sum-is, neg-is, product-is, le-out, at-most-in}
-use lib.IntN.{ℤ, pos, negsuc, negℤ, _+ℤ_, _-ℤ_, _*ℤ_}
+use borrow.Author.Differences.{ints, up, down, sum-is, neg-is, product-is, le-out}
+use lib.IntN.{ℤ, pos, negsuc, negℤ, _+ℤ_, _*ℤ_}
 use lib.Signed.{_≤ℤ_, _<ℤ_, clashℤ}
 use Rattle.std.proofs.shelf.Signed.{by-ltZ}
 use Rattle.calculus.specs.Arithmetic.{floor, ceiling, sum}

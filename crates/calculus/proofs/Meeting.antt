@@ -1,7 +1,6 @@
 -- Within the ranges and meeting rows, place by place and part by part.
-use mathlib.Core.Path.{_≡_, refl, sym, ap, subst, _∙_}
+use mathlib.Core.Path.{_≡_, refl, sym, ap, subst}
 use mathlib.Core.List.{List, [], _∷_, _++_}
-use mathlib.Core.Bool.{true}
 use Prim.Native.Nat.{ℕ, zero, suc, _<_}
 use native.Mathlib.Omega.{arith}
 use lib.IntN.{ℤ}
@@ -10,7 +9,7 @@ use lib.Signed.{_≤ℤ_}
 use Rattle.std.specs.shelf.Lists.{All, Has}
 use Rattle.std.proofs.shelf.Elements.{all-append, all-take, all-has, all-getD, all-from-getD, all-weaker}
 use Rattle.calculus.specs.Laws.{Double-same, Within-each, Meets-each, Meets-together, Meets-first, Meets-part}
-use Rattle.calculus.specs.Rows.{Row, Standing, coef, Meets, Meets-all, Within, reduced, double}
+use Rattle.calculus.specs.Rows.{Row, Standing, coef, Meets, Within}
 use Rattle.calculus.specs.declared.ranges.Range.{Range}
 use Rattle.calculus.proofs.Reduction.{reduced-same, double-decides}
 

@@ -1,14 +1,13 @@
 -- Reduced forms: they divide, the same assignments meet them, and doubles are told by them.
 use mathlib.Core.Path.{_≡_, refl, sym, ap, subst, _∙_}
 use mathlib.Core.List.{List, [], _∷_, map}
-use mathlib.Core.Bool.{Bool, true, false, _&&_}
-use Prim.Native.Nat.{ℕ, zero, suc, _*_, _/_, _<_, _≤_, _∣_, max}
+use Prim.Native.Nat.{ℕ, zero, suc, _/_, _<_, _∣_}
 use native.Mathlib.Nat.{mul-div-cancel'}
 use native.Mathlib.Omega.{arith}
 use borrow.Author.Differences.{ints}
 use lib.IntN.{ℤ, pos, negsuc, negℤ, natAbs, _+ℤ_, _*ℤ_, *ℤ-zero}
-use lib.ListN.{length, getD}
-use lib.Signed.{_≤ℤ_, leZ}
+use lib.ListN.{length}
+use lib.Signed.{_≤ℤ_}
 use Rattle.std.specs.Orderings.{Decides}
 use Rattle.std.specs.shelf.Lists.{All}
 use Rattle.std.proofs.shelf.Ways.{decides-and}

@@ -1,6 +1,6 @@
 -- The account of a day: what stands, by the ranges and the arguments of each call alone.
-use Prim.Native.Nat.{ℕ, _≤_}
-use mathlib.Core.Bool.{Bool, true, false, not, _&&_, _||_}
+use Prim.Native.Nat.{ℕ}
+use mathlib.Core.Bool.{Bool, true, false, not, _||_}
 use mathlib.Core.List.{List, [], _∷_, _++_}
 use lib.Dec.{eqb, leb}
 use lib.IntN.{ℤ}
@@ -10,7 +10,7 @@ use Rattle.std.specs.declared.result.Result.{Result}
 use Rattle.std.specs.declared.result.Result.the-variants.{Ok, Err}
 use Rattle.calculus.specs.Arithmetic.{near}
 use Rattle.calculus.specs.Limits.{most-unknowns, most-rows, most-marks, end-limit, added-coefficient-limit, added-constant-limit}
-use Rattle.calculus.specs.Rows.{Row, Standing, doubled}
+use Rattle.calculus.specs.Rows.{Standing, doubled}
 use Rattle.calculus.specs.declared.ranges.Range.{Range}
 use Rattle.calculus.specs.declared.refusals.Refusal.{Refusal}
 use Rattle.calculus.specs.declared.refusals.Refusal.the-variants.{Shape, Range as BadRange, Weight, Label, Double, Full, Marks, Unmarked}

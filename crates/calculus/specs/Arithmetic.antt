@@ -1,5 +1,5 @@
 -- Whole-number arithmetic: sums, rounding, tests, and the greatest common divisor.
-use Prim.Native.Nat.{ℕ, zero, suc, _%_, max}
+use Prim.Native.Nat.{ℕ, zero, suc, _%_}
 use mathlib.Core.Bool.{Bool, _&&_}
 use mathlib.Core.List.{List}
 use lib.Dec.{leb}
@@ -12,11 +12,11 @@ abbrev pub sum : ℕ → (ℕ → ℤ) → ℤ
 sum zero f = pos 0
 sum (suc n) f = sum n f +ℤ f n
 
--- z divided by k and rounded down, never towards zero: -7 by 2 is -4
+-- z divided by a number k above 0 and rounded down, never towards zero: -7 by 2 is -4
 abbrev pub floor : ℤ → ℕ → ℤ
 floor z k = shrZ z k
 
--- z divided by k and rounded up: 7 by 2 is 4, and -7 by 2 is -3
+-- z divided by a number k above 0 and rounded up: 7 by 2 is 4, and -7 by 2 is -3
 abbrev pub ceiling : ℤ → ℕ → ℤ
 ceiling z k = negℤ (floor (negℤ z) k)
 

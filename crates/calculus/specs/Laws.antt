@@ -36,10 +36,11 @@ Divides-both = (a b : ℕ) → (divisor a b ∣ a) × (divisor a b ∣ b)
 abbrev pub Greatest : Type 0
 Greatest = (d a b : ℕ) → d ∣ a → d ∣ b → d ∣ divisor a b
 
--- the common divisor of a list divides each of its numbers, and whatever divides each of them divides it
+-- the common divisor of a list divides each of its numbers
 abbrev pub Common-divides : Type 0
 Common-divides = (cs : List ℤ) → All (λ c. common cs ∣ natAbs c) cs
 
+-- whatever divides each number of a list divides their common divisor
 abbrev pub Common-greatest : Type 0
 Common-greatest = (d : ℕ) (cs : List ℤ) → All (λ c. d ∣ natAbs c) cs → d ∣ common cs
 
@@ -55,7 +56,7 @@ Reduced-same = (xs : List ℤ) (r : Row) → (Meets xs r → Meets xs (reduced r
 abbrev pub Reduced-plain : Type 0
 Reduced-plain = (r : Row) → All (λ c. c ≡ pos 0) (r .coefs) → reduced r ≡ r
 
--- a row is a double of another just where their reduced forms are equal, and then the same assignments meet both
+-- a row is a double of another just where their reduced forms are equal
 abbrev pub Double-decides : Type 0
 Double-decides = (s t : Standing) →
     (double s t ≡ true → reduced (s .row) ≡ reduced (t .row)) × (reduced (s .row) ≡ reduced (t .row) → double s t ≡ true)
@@ -86,10 +87,11 @@ Meets-together =
     (Meets-all xs (rows ++ more) → Meets-all xs rows × Meets-all xs more)
     × (Meets-all xs rows → Meets-all xs more → Meets-all xs (rows ++ more))
 
--- whoever meets the rows meets any part of them: the first so many, or whichever are among them
+-- whoever meets the rows meets the first so many of them
 abbrev pub Meets-first : Type 0
 Meets-first = (xs : List ℤ) (k : ℕ) (rows : List Standing) → Meets-all xs rows → Meets-all xs (take k rows)
 
+-- whoever meets the rows meets whichever rows are among them
 abbrev pub Meets-part : Type 0
 Meets-part = (xs : List ℤ) (rows part : List Standing) → All (λ s. Has rows s) part → Meets-all xs rows → Meets-all xs part
 
@@ -107,15 +109,19 @@ Carried-listed =
 abbrev pub Each-listed : Type 0
 Each-listed = (r : Refusal) → getD all-refusals (listed r .number - 1) Shape ≡ r
 
--- the numbers of a list of tests rise
+-- the numbers of a list of tests never fall, and none is below n
 abbrev pub rising : ℕ → List Test → Bool
 rising n [] = true
 rising n (t ∷ ts) = leb n (listed (t .refusal) .number) && rising (listed (t .refusal) .number) ts
 
--- where several refusals apply, the answer has the smallest number
-abbrev pub Smallest-first : Type 0
-Smallest-first = (ts : List Test) (r : Refusal) → rising 0 ts ≡ true → answered {A = Unit {0}} ts tt ≡ Err r →
+-- where several refusals apply, the answer has the smallest number; `given` is what the call gives where none does
+abbrev pub Smallest : {A : Type 0} → A → Type 0
+Smallest given = (ts : List Test) (r : Refusal) → rising 0 ts ≡ true → answered ts given ≡ Err r →
     All (λ t. t .applies ≡ true → listed r .number ≤ listed (t .refusal) .number) ts
+
+-- so it is for calls that give nothing and for declaring, which gives a number
+abbrev pub Smallest-first : Type 0
+Smallest-first = Smallest {A = Unit {0}} tt × ((k : ℕ) → Smallest k)
 
 -- the tests of declaring and adding rise
 abbrev pub Tests-rise : Type 0

@@ -36,11 +36,3 @@ formed-constant-limit = 1073741824
 -- a multiplier of a sum, or the divisor of a cut
 abbrev pub multiplier-limit : ℕ
 multiplier-limit = 1073741824
-
--- entries of a trail
-abbrev pub most-entries : ℕ
-most-entries = 256
-
--- lines of a log
-abbrev pub most-lines : ℕ
-most-lines = 65536

@@ -8,13 +8,13 @@ use Rattle.calculus.specs.declared.refusals.Refusal.the-variants.{Shape, Range
 -- What an answer holds beside the refusal.
 pub data Carried : Type 0 where
   nothing : Carried
-  -- the moves that the search made; a check that answers misfit and a log that answers log have no moves to carry
+  -- the moves made; a check that answers misfit and a log that answers log have none to carry
   moves : Carried
   -- the number of the first wrong line
   line : Carried
   -- how many lines the log holds
   held : Carried
-  -- the place of the first byte that is not the one due
+  -- the byte offset at which the text breaks
   offset : Carried
 
 -- A line of the table.

@@ -1,9 +1,7 @@
 -- Worked cases, computed from the definitions.
-use mathlib.Core.Bool.{true, false}
 use mathlib.Core.List.{List, [], _∷_}
 use mathlib.Core.Path.{_≡_}
-use Prim.Native.Nat.{ℕ}
-use lib.IntN.{ℤ, pos, negsuc}
+use lib.IntN.{pos, negsuc}
 use Rattle.std.specs.declared.result.Result.the-variants.{Ok, Err}
 use Rattle.calculus.specs.Account.{Account, settled, added, add-answer}
 use Rattle.calculus.specs.Arithmetic.{floor, ceiling}
@@ -34,9 +32,11 @@ Rounds =
     (floor (negsuc 6) 2 ≡ negsuc 3) × (ceiling (negsuc 6) 2 ≡ negsuc 2)
     × (floor (pos 7) 2 ≡ pos 3) × (ceiling (pos 7) 2 ≡ pos 4)
 
+-- one unknown from 1 to 3
 abbrev pub one-range : List Range
 one-range = record { low = pos 1; high = pos 3 } ∷ []
 
+-- x - 2: x is at most 2
 abbrev pub at-most-two : Row
 at-most-two = record { coefs = pos 1 ∷ []; constant = negsuc 1 }
 

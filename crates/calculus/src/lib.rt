@@ -17,5 +17,6 @@ pub use limits::MAX_MARKS;
 pub use limits::MAX_ROWS;
 pub use limits::MAX_UNKNOWNS;
 pub use ranges::Range;
+pub use ranges::RangePartialEq;
 pub use refusals::Refusal;
 pub use sides::Side;

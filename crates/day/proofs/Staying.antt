@@ -7,21 +7,18 @@ use Prim.Native.Nat.{ℕ, suc}
 use native.Mathlib.Omega.{arith}
 use lib.Dec.{eqb}
 use borrow.Author.Tests.{eqb-true}
-use lib.IntN.{ℤ}
 use Rattle.std.specs.Joined.{joined}
-use Rattle.std.specs.declared.option.Option.{Option}
-use Rattle.std.specs.declared.option.Option.the-variants.{None, Some}
+use Rattle.std.specs.declared.option.Option.the-variants.{Some}
 use Rattle.std.specs.declared.result.Result.{Result}
 use Rattle.std.specs.declared.result.Result.the-variants.{Ok, Err}
 use Rattle.std.specs.shelf.Lists.{All}
-use Rattle.std.proofs.shelf.Lists.{append-nil}
 use Rattle.calculus.specs.Account.{left, declare-answer, add-answer, mark-answer, return-answer}
 use Rattle.calculus.specs.declared.refusals.Refusal.{Refusal}
-use Rattle.script.specs.Commands.{Said, draft, unknown, settle, add, mark, return, rows, later}
+use Rattle.script.specs.Commands.{draft, unknown, settle, add, mark, return, rows, later}
 use Rattle.script.specs.declared.answers.Answer.{Answer}
 use Rattle.script.specs.declared.answers.Answer.the-variants.{Added, Marked, Returned, Refused}
 use Rattle.script.specs.declared.faults.Expected.{Expected}
-use Rattle.day.specs.Day.{Place, nothing, drafting, ticketed, due, after, line, numbered, said-so, Turn, speaks, wants, Outcome, outcome, then, turn}
+use Rattle.day.specs.Day.{State, nothing, drafting, ticketed, line, numbered, said-so, Turn, speaks, wants, Outcome, outcome, then, turn}
 use Rattle.day.specs.Laws.{Refused-stays, Misplaced-stays, Lines-whole, Lines-keep, Begins-alike, Stops-alike}
 use Rattle.day.specs.Lines.{lines, before-first}
 
@@ -120,7 +117,7 @@ lines-keep [] = inl refl
 lines-keep (b ∷ bs) = keeps-by (eqb b 10) b bs (lines bs) refl (none-empty bs) (lines-keep bs)
 
 -- what one turn adds in front
-begins-by : (u : Turn) (n : ℕ) (go on : Place → Outcome) → ((q : Place) → (rest : List ℕ) × (on q .text ≡ go q .text ++ rest)) →
+begins-by : (u : Turn) (n : ℕ) (go on : State → Outcome) → ((q : State) → (rest : List ℕ) × (on q .text ≡ go q .text ++ rest)) →
     (rest : List ℕ) × (then u n on .text ≡ then u n go .text ++ rest)
 begins-by (speaks t q) n go on h =
     let more = h q in
@@ -132,7 +129,7 @@ begins-alike n p [] more = (outcome n p more .text, refl)
 begins-alike n p (l ∷ ls) more =
     begins-by (turn p l) n (λ q. outcome (suc n) q ls) (λ q. outcome (suc n) q (ls ++ more)) (λ q. begins-alike (suc n) q ls more)
 
-stops-by : (u : Turn) (n : ℕ) (go on : Place → Outcome) (s : ℕ × Expected) → ((q : Place) → go q .stop ≡ Some s → on q ≡ go q) →
+stops-by : (u : Turn) (n : ℕ) (go on : State → Outcome) (s : ℕ × Expected) → ((q : State) → go q .stop ≡ Some s → on q ≡ go q) →
     then u n go .stop ≡ Some s → then u n on ≡ then u n go
 stops-by (speaks t q) n go on s h e = ap (λ (o : Outcome). record { text = t ++ o .text; stop = o .stop }) (h q e)
 stops-by (wants w) n go on s h e = refl

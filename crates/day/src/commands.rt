@@ -1,6 +1,5 @@
 // The commands, done one at a time. A command out of place changes nothing.
-ghost use mathlib.Core.Path.{_≡_};
-ghost use Rattle.day.specs.Day.{Done, place-of};
+ghost use Rattle.day.specs.Day.{Done, state-of};
 ghost use Rattle.script.specs.Commands.{said, draft, unknown, settle, add, mark, return, rows};
 use crate::stages::Stage;
 use script::Answer;
@@ -13,7 +12,7 @@ use ticket::Draft;
 
 // A new draft, whatever stood before.
 fn begin(stage: &mut Stage, heap: Global) -> Result<Answer, Fault>
-    ensures { λ r. ⌜ Done (place-of (now (stage .entry))) draft r (place-of (now (stage .exit))) ⌝ }
+    ensures { λ r. ⌜ Done (state-of (now (stage .entry))) draft r (state-of (now (stage .exit))) ⌝ }
 {
     match Draft::new(heap) {
         Ok(draft) => {
@@ -25,7 +24,7 @@ fn begin(stage: &mut Stage, heap: Global) -> Result<Answer, Fault>
 }
 
 fn declare(stage: &mut Stage, low: i32, high: i32) -> Result<Answer, Fault>
-    ensures { λ r. ⌜ Done (place-of (now (stage .entry))) (unknown low high) r (place-of (now (stage .exit))) ⌝ }
+    ensures { λ r. ⌜ Done (state-of (now (stage .entry))) (unknown low high) r (state-of (now (stage .exit))) ⌝ }
 {
     match stage {
         Stage::Drafting(draft) => match draft.declare(low, high) {
@@ -37,7 +36,7 @@ fn declare(stage: &mut Stage, low: i32, high: i32) -> Result<Answer, Fault>
 }
 
 fn settle(stage: &mut Stage) -> Result<Answer, Fault>
-    ensures { λ r. ⌜ Done (place-of (now (stage .entry))) settle r (place-of (now (stage .exit))) ⌝ }
+    ensures { λ r. ⌜ Done (state-of (now (stage .entry))) settle r (state-of (now (stage .exit))) ⌝ }
 {
     match mem::replace(stage, Stage::Nothing) {
         Stage::Drafting(draft) => {
@@ -54,7 +53,7 @@ fn settle(stage: &mut Stage) -> Result<Answer, Fault>
 }
 
 fn add(stage: &mut Stage, label: u8, coefficients: &[i32], constant: i64) -> Result<Answer, Fault>
-    ensures { λ r. ⌜ Done (place-of (now (stage .entry))) (add label (now (coefficients .entry)) constant) r (place-of (now (stage .exit))) ⌝ }
+    ensures { λ r. ⌜ Done (state-of (now (stage .entry))) (add label (now (coefficients .entry)) constant) r (state-of (now (stage .exit))) ⌝ }
 {
     match stage {
         Stage::Settled(ticket) => match ticket.add(label, coefficients, constant) {
@@ -66,7 +65,7 @@ fn add(stage: &mut Stage, label: u8, coefficients: &[i32], constant: i64) -> Res
 }
 
 fn mark(stage: &mut Stage) -> Result<Answer, Fault>
-    ensures { λ r. ⌜ Done (place-of (now (stage .entry))) mark r (place-of (now (stage .exit))) ⌝ }
+    ensures { λ r. ⌜ Done (state-of (now (stage .entry))) mark r (state-of (now (stage .exit))) ⌝ }
 {
     match stage {
         Stage::Settled(ticket) => match ticket.mark() {
@@ -78,7 +77,7 @@ fn mark(stage: &mut Stage) -> Result<Answer, Fault>
 }
 
 fn return_to_mark(stage: &mut Stage) -> Result<Answer, Fault>
-    ensures { λ r. ⌜ Done (place-of (now (stage .entry))) return r (place-of (now (stage .exit))) ⌝ }
+    ensures { λ r. ⌜ Done (state-of (now (stage .entry))) return r (state-of (now (stage .exit))) ⌝ }
 {
     match stage {
         Stage::Settled(ticket) => match ticket.return_to_mark() {
@@ -90,7 +89,7 @@ fn return_to_mark(stage: &mut Stage) -> Result<Answer, Fault>
 }
 
 fn count_rows(stage: &Stage) -> Result<Answer, Fault>
-    ensures { λ r. ⌜ Done (place-of (now (stage .entry))) rows r (place-of (now (stage .entry))) ⌝ }
+    ensures { λ r. ⌜ Done (state-of (now (stage .entry))) rows r (state-of (now (stage .entry))) ⌝ }
 {
     match stage {
         Stage::Settled(ticket) => Ok(Answer::Rows(ticket.rows().len())),
@@ -100,7 +99,7 @@ fn count_rows(stage: &Stage) -> Result<Answer, Fault>
 
 // Does what a command says, and gives its answer.
 pub(crate) fn perform(stage: &mut Stage, heap: Global, command: &Command) -> Result<Answer, Fault>
-    ensures { λ r. ⌜ Done (place-of (now (stage .entry))) (said (now (command .entry))) r (place-of (now (stage .exit))) ⌝ }
+    ensures { λ r. ⌜ Done (state-of (now (stage .entry))) (said (now (command .entry))) r (state-of (now (stage .exit))) ⌝ }
 {
     match command {
         Command::Draft => begin(stage, heap),

@@ -1,5 +1,5 @@
 // A whole script.
-ghost use mathlib.Core.List.{_∷_, [], _++_};
+ghost use mathlib.Core.List.{_++_};
 ghost use mathlib.Core.Path.{_≡_};
 ghost use Rattle.std.specs.Joined.{joined};
 ghost use Rattle.std.specs.Of.String.{string-bytes};
@@ -8,7 +8,7 @@ ghost use Rattle.std.specs.declared.option.Option.the-variants.{Some};
 ghost use Rattle.rows.specs.Store.{account-of, seen};
 ghost use Rattle.script.specs.Answers.{worded};
 ghost use Rattle.script.specs.Commands.{said, rows};
-ghost use Rattle.day.specs.Day.{Taken, due, line, listing, place-of, row-line, spoken, turn};
+ghost use Rattle.day.specs.Day.{Taken, due, line, listing, state-of, row-line, spoken, turn};
 ghost use Rattle.day.specs.Scripts.{Ran, script-outcome, stop-worded};
 use crate::commands::perform;
 use crate::lines::next_line;
@@ -85,7 +85,7 @@ fn print_rows(out: &mut String, rows: &Rows) -> Result<(), AllocError>
 
 // Prints what a command lists after its answer.
 fn print_listing(out: &mut String, stage: &Stage, command: &Command) -> Result<(), AllocError>
-    ensures { λ r. ⌜ made r (λ _. string-bytes (now (out .exit)) ≡ string-bytes (now (out .entry)) ++ listing (place-of (now (stage .entry))) (said (now (command .entry)))) ⌝ }
+    ensures { λ r. ⌜ made r (λ _. string-bytes (now (out .exit)) ≡ string-bytes (now (out .entry)) ++ listing (state-of (now (stage .entry))) (said (now (command .entry)))) ⌝ }
 {
     match (command, stage) {
         (Command::Rows, Stage::Settled(ticket)) => print_rows(out, ticket.rows()),
@@ -100,7 +100,7 @@ fn print_turn(
     stage: &Stage,
     command: &Command,
 ) -> Result<(), AllocError>
-    ensures { λ r. ⌜ made r (λ _. string-bytes (now (out .exit)) ≡ string-bytes (now (out .entry)) ++ (line (worded answer) ++ listing (place-of (now (stage .entry))) (said (now (command .entry))))) ⌝ }
+    ensures { λ r. ⌜ made r (λ _. string-bytes (now (out .exit)) ≡ string-bytes (now (out .entry)) ++ (line (worded answer) ++ listing (state-of (now (stage .entry))) (said (now (command .entry))))) ⌝ }
 {
     print_answer(out, answer)?;
     print_listing(out, stage, command)?;
@@ -114,8 +114,8 @@ fn take_command(
     heap: Global,
     command: &Command,
 ) -> Result<(), Fault>
-    ensures { λ r. ⌜ Taken (spoken (due (place-of (now (stage .entry))) (said (now (command .entry)))) (place-of (now (stage .entry))) (said (now (command .entry))))
-        (string-bytes (now (out .entry))) r (place-of (now (stage .entry))) (place-of (now (stage .exit))) (string-bytes (now (out .exit))) ⌝ }
+    ensures { λ r. ⌜ Taken (spoken (due (state-of (now (stage .entry))) (said (now (command .entry)))) (state-of (now (stage .entry))) (said (now (command .entry))))
+        (string-bytes (now (out .entry))) r (state-of (now (stage .entry))) (state-of (now (stage .exit))) (string-bytes (now (out .exit))) ⌝ }
 {
     let answer = perform(stage, heap, command)?;
     let Ok(()) = print_turn(out, answer, stage, command) else {
@@ -126,8 +126,8 @@ fn take_command(
 
 // Reads one line, does its command if it has one, and prints the answer.
 fn take_line(out: &mut String, stage: &mut Stage, heap: Global, bytes: &[u8]) -> Result<(), Fault>
-    ensures { λ r. ⌜ Taken (turn (place-of (now (stage .entry))) (now (bytes .entry)))
-        (string-bytes (now (out .entry))) r (place-of (now (stage .entry))) (place-of (now (stage .exit))) (string-bytes (now (out .exit))) ⌝ }
+    ensures { λ r. ⌜ Taken (turn (state-of (now (stage .entry))) (now (bytes .entry)))
+        (string-bytes (now (out .entry))) r (state-of (now (stage .entry))) (state-of (now (stage .exit))) (string-bytes (now (out .exit))) ⌝ }
 {
     match read_command(heap, bytes)? {
         Some(command) => take_command(out, stage, heap, &command),

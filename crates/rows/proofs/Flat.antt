@@ -2,21 +2,18 @@
 use mathlib.Core.Path.{_≡_, refl, sym, ap, _∙_}
 use mathlib.Core.Bool.{Bool, true, false, _||_}
 use mathlib.Core.List.{List, [], _∷_, _++_, map, reverse}
-use Prim.Native.Nat.{ℕ, zero, suc, min, _+_, _*_, _-_, _<_, _≤_}
+use Prim.Native.Nat.{ℕ, zero, suc, min, _+_, _*_, _<_, _≤_}
 use mathlib.Core.Logic.{inl, inr}
-use native.Mathlib.Nat.{le-of-lt, mul-le-mul-right, mul-le-mul-left, add-mul, zero-mul, suc-mul, min-eq-left, min-eq-right}
-use native.Mathlib.Numerals.{add-one, one-add}
+use native.Mathlib.Nat.{le-of-lt, mul-le-mul-right, add-mul, zero-mul, suc-mul}
 use native.Mathlib.Omega.{arith}
-use lib.IntN.{ℤ, pos}
+use lib.IntN.{ℤ}
 use lib.ListN.{length, getD, take, drop}
-use Rattle.std.specs.Options.{mapped}
 use Rattle.std.specs.Runs.{nth}
-use Rattle.std.specs.declared.option.Option.the-variants.{Some, None}
-use Rattle.std.proofs.shelf.Lists.{append-nil, length-append, length-map, length-reverse, length-take-le, length-drop, take-take, take-append-le, take-all, take-at, drop-append-le, drop-drop, drop-take, drop-more, drop-all, drop-at, map-append, reverse-append, nil-from-length}
+use Rattle.std.specs.declared.option.Option.the-variants.{Some}
+use Rattle.std.proofs.shelf.Lists.{length-map, length-reverse, length-drop, take-take, take-append-le, take-all, drop-append-le, drop-drop, drop-take, drop-more, map-append, reverse-append, nil-from-length}
 use Rattle.std.proofs.shelf.Tests.{cases-lt}
-use Rattle.std.proofs.shelf.Maps.{nth-getD, nth-past}
 use Rattle.calculus.specs.Account.{standing}
-use Rattle.calculus.specs.Rows.{Standing, doubled, double}
+use Rattle.calculus.specs.Rows.{Standing}
 use Rattle.rows.specs.Store.{rows-of, marks-of}
 use Rattle.rows.specs.declared.forms.Header.{Header}
 use Rattle.rows.specs.declared.store.Mark.{Mark}

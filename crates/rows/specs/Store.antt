@@ -28,6 +28,7 @@ rows-of n (h ∷ hs) cs = standing (h .label) (take n cs) (h .constant) ∷ rows
 abbrev pub marks-of : List Mark → List ℕ
 marks-of ms = reverse (map (λ (m : Mark). m .rows) ms)
 
+-- the account that the stored ranges, headers, coefficients and marks stand for
 abbrev pub account-of : Rows → Account
 account-of t = record {
   ranges = map (λ (s : Span). s .range) (vec-items (t .spans));

@@ -1,6 +1,5 @@
 // Division rounded down and up, and the common divisor.
-ghost use Prim.Native.Nat.{_<_, _≤_, _^_};
-ghost use lib.IntN.{natAbs};
+ghost use Prim.Native.Nat.{_<_};
 ghost use mathlib.Core.Path.{_≡_};
 ghost use Rattle.calculus.specs.Arithmetic.{floor, ceiling, divisor};
 

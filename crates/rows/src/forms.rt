@@ -1,5 +1,5 @@
 // Reduced forms and doubles. Reduced rows are compared and never built.
-ghost use Prim.Native.Nat.{_<_, _≤_};
+ghost use Prim.Native.Nat.{_<_};
 ghost use lib.ListN.{length};
 ghost use mathlib.Core.List.{map};
 ghost use mathlib.Core.Path.{_≡_};

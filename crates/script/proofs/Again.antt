@@ -1,4 +1,4 @@
--- A printed row is told as the row that was printed.
+-- A printed row is parsed as the row that was printed.
 use mathlib.Core.Path.{_≡_, refl, sym, ap, _∙_}
 use mathlib.Core.Bool.{true, false}
 use mathlib.Core.List.{List, [], _∷_, _++_, map, append-nil, append-assoc}
@@ -19,9 +19,9 @@ use Rattle.std.specs.shelf.Lists.{All}
 use Rattle.std.proofs.shelf.Decimals.{decimal-by-steps, decimal-some}
 use Rattle.std.proofs.shelf.Ways.{tells}
 use Rattle.script.specs.Answers.{spaced}
-use Rattle.script.specs.Commands.{add, told-row, told-add, some}
+use Rattle.script.specs.Commands.{add, parsed-row, parsed-add, some}
 use Rattle.script.specs.Laws.{Row-reads-back}
-use Rattle.script.specs.Numbers.{narrow, wide, as-label, label-of}
+use Rattle.script.specs.Numbers.{nearest-i32, nearest-i64, as-label, label-of}
 use Rattle.script.specs.Words.{blank, front, words, words-past}
 use Rattle.script.proofs.Back.{reads-back, held}
 use Rattle.script.proofs.Parting.{Clear}
@@ -78,19 +78,19 @@ words-text (c ∷ cs) k h l =
     ∙ word-then (signed c) (text cs k) (s .1) (s .0) (f .0)
     ∙ ap (λ (ws : List (List ℕ)). signed c ∷ ws) (f .1 ∙ words-text cs k (h .1) l)
 
-row-step : (l : ℕ) (cs : List ℤ) (c : ℤ) (w : List ℕ) (ws : List (List ℕ)) → 0 < length ws → narrow w ≡ Some c →
-    told-row l cs (w ∷ ws) ≡ told-row l (cs ++ c ∷ []) ws
+row-step : (l : ℕ) (cs : List ℤ) (c : ℤ) (w : List ℕ) (ws : List (List ℕ)) → 0 < length ws → nearest-i32 w ≡ Some c →
+    parsed-row l cs (w ∷ ws) ≡ parsed-row l (cs ++ c ∷ []) ws
 row-step l cs c w [] h e = absurd (omega arith)
 row-step l cs c w (v ∷ ws) h e = simp e
 
 row-back : (l : ℕ) (before cs : List ℤ) (k : ℤ) → All (λ c. mag c < 2 ^ 31) cs → mag k < 2 ^ 63 →
-    told-row l before (map signed cs ++ signed k ∷ []) ≡ Ok (add l (before ++ cs) k)
+    parsed-row l before (map signed cs ++ signed k ∷ []) ≡ Ok (add l (before ++ cs) k)
 row-back l before [] k h b =
-    let e : wide (signed k) ≡ Some k = ap (mapped (saturated 63)) (reads-back k b) ∙ ap Some (held 63 k b) in
+    let e : nearest-i64 (signed k) ≡ Some k = ap (mapped (saturated 63)) (reads-back k b) ∙ ap Some (held 63 k b) in
     let a = append-nil before in
     simp (e, a)
 row-back l before (c ∷ cs) k h b =
-    let e : narrow (signed c) ≡ Some c = ap (mapped (saturated 31)) (reads-back c (omega (arith, h .0))) ∙ ap Some (held 31 c (h .0)) in
+    let e : nearest-i32 (signed c) ≡ Some c = ap (mapped (saturated 31)) (reads-back c (omega (arith, h .0))) ∙ ap Some (held 31 c (h .0)) in
     let more : 0 < length (map signed cs ++ signed k ∷ []) = simp length-append (omega arith) in
     row-step l before c (signed c) (map signed cs ++ signed k ∷ []) more e
     ∙ row-back l (before ++ c ∷ []) cs k (h .1) b
@@ -107,5 +107,5 @@ row-reads-back l cs k small h b =
     let w = word-then (decimal l) (text cs k) (decimal-some l (omega arith)) (clear-decimal l (omega arith)) (f .0) in
     let e = label-back l small in
     let r = row-back l [] cs k h b in
-    ap (λ (ws : List (List ℕ)). some (told-add ws)) (w ∙ ap (λ (ws : List (List ℕ)). decimal l ∷ ws) (f .1 ∙ words-text cs k h b))
+    ap (λ (ws : List (List ℕ)). some (parsed-add ws)) (w ∙ ap (λ (ws : List (List ℕ)). decimal l ∷ ws) (f .1 ∙ words-text cs k h b))
     ∙ simp (e, r)

@@ -1,6 +1,6 @@
-pub mod Saturation
-pub mod Cutting
-pub mod Parting
-pub mod Wording
-pub mod Back
-pub mod Again
+mod Saturation
+mod Cutting
+mod Parting
+mod Wording
+mod Back
+mod Again

@@ -11,7 +11,7 @@ use Rattle.std.specs.Numbers.{saturated}
 use Rattle.std.specs.Options.{mapped}
 use Rattle.std.specs.declared.option.Option.{Option}
 use Rattle.std.specs.declared.option.Option.the-variants.{None, Some}
-use Rattle.script.specs.Numbers.{is-digit, digits-after, magnitude, below-zero, wide}
+use Rattle.script.specs.Numbers.{is-digit, digits-after, magnitude, below-zero, nearest-i64}
 
 abbrev pub cut : ℕ → ℕ
 cut n = min n (2 ^ 64 - 1)
@@ -55,7 +55,7 @@ none None e = refl
 none (Some n) e = absurd (grind arith)
 
 -- after a minus sign
-pub wide-minus : (t : List ℕ) → 1 ≤ length t → getD t 0 0 ≡ 45 → wide t ≡ mapped (saturated 63) (below-zero (magnitude (take (length t - 1) (drop 1 t))))
+pub wide-minus : (t : List ℕ) → 1 ≤ length t → getD t 0 0 ≡ 45 → nearest-i64 t ≡ mapped (saturated 63) (below-zero (magnitude (take (length t - 1) (drop 1 t))))
 wide-minus [] h e = absurd (omega arith)
 wide-minus (b ∷ bs) h e =
     let r : take (suc (length bs) - 1) bs ≡ bs = take-all _ _ (omega arith) in simp (e, r)

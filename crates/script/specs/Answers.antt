@@ -6,7 +6,7 @@ use lib.IntN.{ℤ}
 use Rattle.std.specs.Joined.{joined}
 use Rattle.std.specs.Written.{decimal, signed}
 use Rattle.calculus.specs.Refusals.{listed}
-use Rattle.script.specs.Keywords.{later-word}
+use Rattle.keywords.specs.Keywords.{later-word}
 use Rattle.script.specs.declared.answers.Answer.{Answer}
 use Rattle.script.specs.declared.answers.Answer.the-variants.{Draft, Unknown, Settled, Added, Marked, Returned, Refused, Rows, NotOffered}
 

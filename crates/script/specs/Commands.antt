@@ -11,8 +11,8 @@ use Rattle.std.specs.declared.option.Option.{Option}
 use Rattle.std.specs.declared.option.Option.the-variants.{None, Some}
 use Rattle.std.specs.declared.result.Result.{Result}
 use Rattle.std.specs.declared.result.Result.the-variants.{Ok, Err}
-use Rattle.script.specs.Keywords.{named}
-use Rattle.script.specs.Numbers.{narrow, wide, label-of}
+use Rattle.keywords.specs.Keywords.{named}
+use Rattle.script.specs.Numbers.{nearest-i32, nearest-i64, label-of}
 use Rattle.script.specs.Words.{words}
 use Rattle.script.specs.declared.commands.Command.{Command}
 use Rattle.script.specs.declared.commands.Command.the-variants.{Draft, Unknown, Settle, Add, Mark, Return, Rows, Later as Not-yet}
@@ -20,9 +20,9 @@ use Rattle.script.specs.declared.faults.Expected.{Expected}
 use Rattle.script.specs.declared.faults.Expected.the-variants.{Command as A-command, Number as A-number, Label as A-label, End as The-end}
 use Rattle.script.specs.declared.faults.Fault.{Fault}
 use Rattle.script.specs.declared.faults.Fault.the-variants.{Memory, Expected as Awaited}
-use Rattle.script.specs.declared.keywords.Keyword.{Keyword}
-use Rattle.script.specs.declared.keywords.Keyword.the-variants.{Draft as Draft-word, Unknown as Unknown-word, Settle as Settle-word, Add as Add-word, Mark as Mark-word, Return as Return-word, Rows as Rows-word, Later as Later-word}
-use Rattle.script.specs.declared.keywords.Later.{Later}
+use Rattle.keywords.specs.declared.Keyword.{Keyword}
+use Rattle.keywords.specs.declared.Keyword.the-variants.{Draft as Draft-word, Unknown as Unknown-word, Settle as Settle-word, Add as Add-word, Mark as Mark-word, Return as Return-word, Rows as Rows-word, Later as Later-word}
+use Rattle.keywords.specs.declared.Later.{Later}
 
 -- A command, with lists in place of vectors.
 pub data Said : Type 0 where
@@ -63,58 +63,58 @@ alone command [] = Ok command
 alone command (w ∷ ws) = Err The-end
 
 -- the two ends of a range, and nothing after them
-abbrev pub told-unknown : List (List ℕ) → Result Said Expected
-told-unknown ws =
-    given (first narrow ws) A-number (λ low.
-    given (first narrow (low .1)) A-number (λ high.
+abbrev pub parsed-unknown : List (List ℕ) → Result Said Expected
+parsed-unknown ws =
+    given (first nearest-i32 ws) A-number (λ low.
+    given (first nearest-i32 (low .1)) A-number (λ high.
     alone (unknown (low .0) (high .0)) (high .1)))
 
 -- the words after the coefficients cs of a row: numbers, of which the last is the constant
-abbrev pub told-row : ℕ → List ℤ → List (List ℕ) → Result Said Expected
-told-row label cs [] = Err A-number
-told-row label cs (w ∷ []) = given (wide w) A-number (λ constant. Ok (add label cs constant))
-told-row label cs (w ∷ v ∷ ws) = given (narrow w) A-number (λ c. told-row label (cs ++ c ∷ []) (v ∷ ws))
+abbrev pub parsed-row : ℕ → List ℤ → List (List ℕ) → Result Said Expected
+parsed-row label cs [] = Err A-number
+parsed-row label cs (w ∷ []) = given (nearest-i64 w) A-number (λ constant. Ok (add label cs constant))
+parsed-row label cs (w ∷ v ∷ ws) = given (nearest-i32 w) A-number (λ c. parsed-row label (cs ++ c ∷ []) (v ∷ ws))
 
 -- a label, and a row's numbers
-abbrev pub told-add : List (List ℕ) → Result Said Expected
-told-add ws = given (first label-of ws) A-label (λ l. told-row (l .0) [] (l .1))
+abbrev pub parsed-add : List (List ℕ) → Result Said Expected
+parsed-add ws = given (first label-of ws) A-label (λ l. parsed-row (l .0) [] (l .1))
 
 -- the words after a command's first; what follows a command that is not offered yet is passed over
-abbrev pub told-as : Keyword → List (List ℕ) → Result Said Expected
-told-as Draft-word ws = alone draft ws
-told-as Unknown-word ws = told-unknown ws
-told-as Settle-word ws = alone settle ws
-told-as Add-word ws = told-add ws
-told-as Mark-word ws = alone mark ws
-told-as Return-word ws = alone return ws
-told-as Rows-word ws = alone rows ws
-told-as (Later-word l) ws = Ok (later l)
+abbrev pub parsed-as : Keyword → List (List ℕ) → Result Said Expected
+parsed-as Draft-word ws = alone draft ws
+parsed-as Unknown-word ws = parsed-unknown ws
+parsed-as Settle-word ws = alone settle ws
+parsed-as Add-word ws = parsed-add ws
+parsed-as Mark-word ws = alone mark ws
+parsed-as Return-word ws = alone return ws
+parsed-as Rows-word ws = alone rows ws
+parsed-as (Later-word l) ws = Ok (later l)
 
 -- a word that begins with `#` (35)
-abbrev pub remark : List ℕ → Bool
-remark [] = false
-remark (b ∷ bs) = eqb b 35
+abbrev pub comment : List ℕ → Bool
+comment [] = false
+comment (b ∷ bs) = eqb b 35
 
 -- a command, where there may be none
 abbrev pub some : Result Said Expected → Result (Option Said) Expected
 some (Ok s) = Ok (Some s)
 some (Err e) = Err e
 
--- a line without a word and a remark say nothing; any other line is to be a command
-abbrev pub told-words : List (List ℕ) → Result (Option Said) Expected
-told-words [] = Ok None
-told-words (w ∷ ws) = cond (remark w) (Ok None) (some (given (named w) A-command (λ k. told-as k ws)))
+-- a line without a word and a comment say nothing; any other line is to be a command
+abbrev pub parsed-words : List (List ℕ) → Result (Option Said) Expected
+parsed-words [] = Ok None
+parsed-words (w ∷ ws) = cond (comment w) (Ok None) (some (given (named w) A-command (λ k. parsed-as k ws)))
 
 -- what a line says
-abbrev pub told : List ℕ → Result (Option Said) Expected
-told line = told-words (words line)
+abbrev pub parsed : List ℕ → Result (Option Said) Expected
+parsed line = parsed-words (words line)
 
 -- a line that adds a row: no other command asks for memory
 abbrev pub Adds : List (List ℕ) → Type 0
 Adds [] = ⊥
 Adds (w ∷ ws) = named w ≡ Some Add-word
 
--- What a reader answers is what is told, and `means` is what its value says; want of memory comes only under `may`.
+-- What a reader answers is what is parsed, and `means` is what its value says; want of memory comes only under `may`.
 abbrev pub Reads : {A B : Type 0} → Type 0 → (A → B) → Result A Fault → Result B Expected → Type 0
 Reads may means (Ok a) t = t ≡ Ok (means a)
 Reads may means (Err Memory) t = may

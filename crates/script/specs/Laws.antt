@@ -15,11 +15,11 @@ use Rattle.std.specs.declared.result.Result.the-variants.{Ok, Err}
 use Rattle.std.specs.shelf.Lists.{All}
 use Rattle.calculus.specs.Arithmetic.{near}
 use Rattle.script.specs.Answers.{row-worded}
-use Rattle.script.specs.Commands.{add, later, told}
-use Rattle.script.specs.Numbers.{numeral, narrow, wide}
+use Rattle.script.specs.Commands.{add, later, parsed}
+use Rattle.script.specs.Numbers.{numeral, nearest-i32, nearest-i64}
 use Rattle.script.specs.Words.{blank, words}
 use Rattle.script.specs.declared.faults.Expected.the-variants.{Command, Number, Label, End}
-use Rattle.script.specs.declared.keywords.Later.the-variants.{Search}
+use Rattle.keywords.specs.declared.Later.the-variants.{Check}
 
 -- no word is empty, and none has a blank in it
 abbrev pub Words-whole : Type 0
@@ -45,9 +45,9 @@ Stays-outside = (h limit : ℕ) (z : ℤ) → limit < 2 ^ h - 1 → near limit (
 -- a printed row, with `add ` in front, adds that row
 abbrev pub Row-reads-back : Type 0
 Row-reads-back = (label : ℕ) (cs : List ℤ) (constant : ℤ) → label ≤ 255 → All (λ c. mag c < 2 ^ 31) cs → mag constant < 2 ^ 63 →
-    told (codes "add " ++ row-worded label cs constant) ≡ Ok (Some (add label cs constant))
+    parsed (codes "add " ++ row-worded label cs constant) ≡ Ok (Some (add label cs constant))
 
--- worked examples
+-- what is no number and what is, numbers past their type, and the first thing that is expected on a wrong line
 abbrev pub Worked : Type 0
 Worked =
     (numeral (codes "+5") ≡ None)
@@ -57,13 +57,13 @@ Worked =
     × (numeral (codes "1x") ≡ None)
     × (numeral (codes "-15") ≡ Some (negsuc 14))
     × (numeral (codes "1234567890123456789012345678901234567890") ≡ Some (pos 1234567890123456789012345678901234567890))
-    × (narrow (codes "1234567890123456789012345678901234567890") ≡ Some (pos 2147483647))
-    × (wide (codes "-1234567890123456789012345678901234567890") ≡ Some (negsuc 9223372036854775807))
-    × (told (codes "add 1 2 -3") ≡ Ok (Some (add 1 (pos 2 ∷ []) (negsuc 2))))
-    × (told (codes " add 3  -15") ≡ Ok (Some (add 3 [] (negsuc 14))))
-    × (told (codes "  # x") ≡ Ok None)
-    × (told (codes "search x") ≡ Ok (Some (later Search)))
-    × (told (codes "adding 1 2") ≡ Err Command)
-    × (told (codes "add 256 x") ≡ Err Label)
-    × (told (codes "unknown 0 x y") ≡ Err Number)
-    × (told (codes "settle 1") ≡ Err End)
+    × (nearest-i32 (codes "1234567890123456789012345678901234567890") ≡ Some (pos 2147483647))
+    × (nearest-i64 (codes "-1234567890123456789012345678901234567890") ≡ Some (negsuc 9223372036854775807))
+    × (parsed (codes "add 1 2 -3") ≡ Ok (Some (add 1 (pos 2 ∷ []) (negsuc 2))))
+    × (parsed (codes " add 3  -15") ≡ Ok (Some (add 3 [] (negsuc 14))))
+    × (parsed (codes "  # x") ≡ Ok None)
+    × (parsed (codes "check x") ≡ Ok (Some (later Check)))
+    × (parsed (codes "adding 1 2") ≡ Err Command)
+    × (parsed (codes "add 256 x") ≡ Err Label)
+    × (parsed (codes "unknown 0 x y") ≡ Err Number)
+    × (parsed (codes "settle 1") ≡ Err End)

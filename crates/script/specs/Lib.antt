@@ -1,7 +1,6 @@
 pub mod Numbers
 pub mod Words
 pub mod Faults
-pub mod Keywords
 pub mod Commands
 pub mod Answers
 pub mod Laws

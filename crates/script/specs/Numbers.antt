@@ -36,12 +36,12 @@ numeral [] = None
 numeral (b ∷ bs) = cond (eqb b 45) (below-zero (magnitude bs)) (mapped pos (magnitude (b ∷ bs)))
 
 -- the number of 64 bits with sign that is nearest to the word's
-abbrev pub wide : List ℕ → Option ℤ
-wide word = mapped (saturated 63) (numeral word)
+abbrev pub nearest-i64 : List ℕ → Option ℤ
+nearest-i64 word = mapped (saturated 63) (numeral word)
 
 -- the number of 32 bits with sign that is nearest to the word's
-abbrev pub narrow : List ℕ → Option ℤ
-narrow word = mapped (saturated 31) (numeral word)
+abbrev pub nearest-i32 : List ℕ → Option ℤ
+nearest-i32 word = mapped (saturated 31) (numeral word)
 
 -- a label is a number from 0 to 255
 abbrev pub as-label : Option ℤ → Option ℕ

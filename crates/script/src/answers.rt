@@ -6,8 +6,8 @@ ghost use Rattle.std.specs.Vec.{made};
 ghost use Rattle.std.specs.Written.{decimal};
 ghost use mathlib.Core.List.{_++_};
 ghost use mathlib.Core.Path.{_≡_};
-use crate::keywords::Later;
 use calculus::Refusal;
+use keywords::Later;
 use std::alloc::AllocError;
 use std::fmt;
 

@@ -1,7 +1,7 @@
 // Reading a command of the day script.
-ghost use Rattle.script.specs.Commands.{said, first, alone, told-unknown, told-row, told-add, told-as, remark, told, Adds, Reads};
-ghost use Rattle.script.specs.declared.keywords.Keyword.the-variants.{Add};
-ghost use Rattle.script.specs.Numbers.{narrow};
+ghost use Rattle.script.specs.Commands.{said, first, alone, parsed-unknown, parsed-row, parsed-add, parsed-as, comment, parsed, Adds, Reads};
+ghost use Rattle.keywords.specs.declared.Keyword.the-variants.{Add};
+ghost use Rattle.script.specs.Numbers.{nearest-i32};
 ghost use Rattle.script.specs.Words.{words};
 ghost use Rattle.std.specs.Options.{mapped, Cases as BySome};
 ghost use Rattle.std.specs.declared.option.Option.the-variants.{None, Some};
@@ -9,13 +9,13 @@ ghost use mathlib.Core.List.{[]};
 ghost use mathlib.Core.Path.{_≡_};
 use crate::faults::Expected;
 use crate::faults::Fault;
-use crate::keywords::Keyword;
-use crate::keywords::Later;
-use crate::keywords::keyword_of;
 use crate::numbers::read_label;
 use crate::numbers::read_narrow;
 use crate::numbers::read_wide;
 use crate::words::next_word;
+use keywords::Keyword;
+use keywords::Later;
+use keywords::keyword_of;
 use std::alloc::Global;
 
 // A command of the day script.
@@ -47,8 +47,8 @@ struct Number<'a> {
 
 // The number of 32 bits at the front.
 fn next_number(line: &[u8]) -> Option<Number<'_>>
-    ensures { λ r. ⌜ BySome r (first narrow (words (now (line .entry))) ≡ None)
-        (λ n. first narrow (words (now (line .entry))) ≡ Some (n .value, words (now (n .rest)))) ⌝ }
+    ensures { λ r. ⌜ BySome r (first nearest-i32 (words (now (line .entry))) ≡ None)
+        (λ n. first nearest-i32 (words (now (line .entry))) ≡ Some (n .value, words (now (n .rest)))) ⌝ }
 {
     let cut = next_word(line)?;
     let value = read_narrow(cut.word)?;
@@ -70,7 +70,7 @@ fn ended(command: Command, rest: &[u8]) -> Result<Command, Fault>
 
 // The ends of a range.
 fn read_unknown(rest: &[u8]) -> Result<Command, Fault>
-    ensures { λ r. ⌜ Reads ⊥ said r (told-unknown (words (now (rest .entry)))) ⌝ }
+    ensures { λ r. ⌜ Reads ⊥ said r (parsed-unknown (words (now (rest .entry)))) ⌝ }
 {
     let Some(low) = next_number(rest) else {
         return Err(Fault::Expected(Expected::Number));
@@ -87,7 +87,7 @@ fn read_unknown(rest: &[u8]) -> Result<Command, Fault>
 
 // The coefficients and the constant of a row.
 fn read_row(heap: Global, label: u8, line: &[u8]) -> Result<Command, Fault>
-    ensures { λ r. ⌜ Reads (Unit {0}) said r (told-row label [] (words (now (line .entry)))) ⌝ }
+    ensures { λ r. ⌜ Reads (Unit {0}) said r (parsed-row label [] (words (now (line .entry)))) ⌝ }
 {
     let mut coefficients = Vec::new(heap);
     let Some(first) = next_word(line) else {
@@ -117,7 +117,7 @@ fn read_row(heap: Global, label: u8, line: &[u8]) -> Result<Command, Fault>
 
 // A label, and the numbers of a row.
 fn read_add(heap: Global, rest: &[u8]) -> Result<Command, Fault>
-    ensures { λ r. ⌜ Reads (Unit {0}) said r (told-add (words (now (rest .entry)))) ⌝ }
+    ensures { λ r. ⌜ Reads (Unit {0}) said r (parsed-add (words (now (rest .entry)))) ⌝ }
 {
     let Some(cut) = next_word(rest) else {
         return Err(Fault::Expected(Expected::Label));
@@ -130,7 +130,7 @@ fn read_add(heap: Global, rest: &[u8]) -> Result<Command, Fault>
 
 // What follows a command's first word.
 fn read_as(heap: Global, keyword: Keyword, rest: &[u8]) -> Result<Command, Fault>
-    ensures { λ r. ⌜ Reads (keyword ≡ Add) said r (told-as keyword (words (now (rest .entry)))) ⌝ }
+    ensures { λ r. ⌜ Reads (keyword ≡ Add) said r (parsed-as keyword (words (now (rest .entry)))) ⌝ }
 {
     match keyword {
         Keyword::Draft => ended(Command::Draft, rest),
@@ -144,20 +144,20 @@ fn read_as(heap: Global, keyword: Keyword, rest: &[u8]) -> Result<Command, Fault
     }
 }
 
-fn is_remark(word: &[u8]) -> bool
-    ensures { λ r. ⌜ r ≡ remark (now (word .entry)) ⌝ }
+fn is_comment(word: &[u8]) -> bool
+    ensures { λ r. ⌜ r ≡ comment (now (word .entry)) ⌝ }
 {
     matches!(word, [b'#', ..])
 }
 
-// The command that a line gives; none for a line of blanks and for a remark, which begins with `#`.
+// The command that a line gives; none for a line of blanks and for a comment, which begins with `#`.
 pub fn read_command(heap: Global, line: &[u8]) -> Result<Option<Command>, Fault>
-    ensures { λ r. ⌜ Reads (Adds (words (now (line .entry)))) (mapped said) r (told (now (line .entry))) ⌝ }
+    ensures { λ r. ⌜ Reads (Adds (words (now (line .entry)))) (mapped said) r (parsed (now (line .entry))) ⌝ }
 {
     let Some(cut) = next_word(line) else {
         return Ok(None);
     };
-    if is_remark(cut.word) {
+    if is_comment(cut.word) {
         return Ok(None);
     }
     let Some(keyword) = keyword_of(cut.word) else {

@@ -2,7 +2,6 @@
 mod answers;
 mod commands;
 mod faults;
-mod keywords;
 mod laws;
 mod numbers;
 mod words;
@@ -16,5 +15,4 @@ pub use commands::read_command;
 pub use faults::Expected;
 pub use faults::ExpectedDisplay;
 pub use faults::Fault;
-pub use keywords::Later;
 pub use laws::reading_stands;

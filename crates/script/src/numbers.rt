@@ -1,5 +1,5 @@
 // Reading the numbers of a command. A number too large for its type is taken as the nearest one that the type holds.
-ghost use Rattle.script.specs.Numbers.{is-digit, digits-after, magnitude, below-zero, wide, narrow, label-of};
+ghost use Rattle.script.specs.Numbers.{is-digit, digits-after, magnitude, below-zero, nearest-i64, nearest-i32, label-of};
 ghost use Rattle.std.specs.Options.{mapped};
 ghost use Prim.Native.Nat.{_-_, _^_, min};
 ghost use Rattle.std.specs.Numbers.{saturated};
@@ -62,7 +62,7 @@ fn under_zero(n: u64) -> Option<i64>
 
 // The number of 64 bits that a word writes, with or without a minus sign.
 pub(crate) fn read_wide(text: &[u8]) -> Option<i64>
-    ensures { λ r. ⌜ r ≡ wide (now (text .entry)) ⌝ }
+    ensures { λ r. ⌜ r ≡ nearest-i64 (now (text .entry)) ⌝ }
 {
     match text {
         [b'-', digits @ ..] => under_zero(read_magnitude(digits)?),
@@ -79,7 +79,7 @@ fn shortened(n: i64) -> i32
 
 // The number of 32 bits that a word writes.
 pub(crate) fn read_narrow(text: &[u8]) -> Option<i32>
-    ensures { λ r. ⌜ r ≡ narrow (now (text .entry)) ⌝ }
+    ensures { λ r. ⌜ r ≡ nearest-i32 (now (text .entry)) ⌝ }
 {
     Some(shortened(read_wide(text)?))
 }

@@ -24,7 +24,7 @@ fn is_heavy(coefficient: i32) -> bool
     coefficient.unsigned_abs() > MAX_COEFFICIENT
 }
 
-// Whether one of the coefficients does.
+// Whether a coefficient of the list lies outside its limits.
 fn has_heavy(coefficients: &[i32]) -> bool
     ensures { λ r. ⌜ r ≡ heavy (now (coefficients .entry)) ⌝ }
 {

@@ -6,7 +6,6 @@ use borrow.Author.Needs.{needs}
 use Rattle.std.specs.Of.String.{string-bytes}
 use Rattle.std.proofs.shelf.Signed.{toZ-ofZ}
 use Rattle.script.specs.Answers.{row-worded}
-use Rattle.rows.specs.Store.{seen}
 use Rattle.day.proofs.Printing.{ended}
 use Rattle.day.proofs.scripts.print_row.Needs as need
 

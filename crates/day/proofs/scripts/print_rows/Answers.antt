@@ -1,8 +1,8 @@
-use mathlib.Core.Path.{_≡_, refl}
+use mathlib.Core.Path.{refl}
 use native.Mathlib.Omega.{arith}
 use borrow.Author.Needs.{needs}
 use Rattle.std.specs.Of.String.{string-bytes}
-use Rattle.rows.specs.Store.{account-of, seen}
+use Rattle.rows.specs.Store.{account-of}
 use Rattle.rows.proofs.Counts.{rows-count}
 use Rattle.day.specs.Day.{row-line}
 use Rattle.day.proofs.Printing.{nth-inside, printed-more, printed-all}

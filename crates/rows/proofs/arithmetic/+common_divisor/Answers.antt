@@ -1,4 +1,4 @@
-use mathlib.Core.Path.{_≡_, sym, ap, _∙_}
+use mathlib.Core.Path.{sym, ap, _∙_}
 use Rattle.calculus.proofs.Divisors.{divisor-zero, divisor-step}
 use Rattle.calculus.specs.Arithmetic.{divisor}
 use native.Mathlib.Omega.{arith}

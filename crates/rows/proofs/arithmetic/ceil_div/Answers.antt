@@ -1,6 +1,5 @@
 use mathlib.Core.Path.{_≡_, ap, _∙_}
-use lib.IntN.{ℤ, pos, negℤ, natAbs, _-ℤ_}
-use Prim.Native.Nat.{_≤_}
+use lib.IntN.{ℤ, pos, negℤ, _-ℤ_}
 use mir.Syntax.{w64}
 use mir.Val.{toZ, ofZ}
 use native.Mathlib.Omega.{arith}

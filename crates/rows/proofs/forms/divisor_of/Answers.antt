@@ -1,7 +1,7 @@
-use mathlib.Core.Path.{_≡_, ap, sym, _∙_}
-use Prim.Native.Nat.{_<_, max}
-use lib.IntN.{ℤ, pos, natAbs}
-use lib.ListN.{length, getD, take}
+use mathlib.Core.Path.{_≡_, ap, _∙_}
+use Prim.Native.Nat.{max}
+use lib.IntN.{pos, natAbs}
+use lib.ListN.{getD}
 use mir.Syntax.{w32}
 use mir.Val.{SFits}
 use native.Mathlib.Omega.{arith}

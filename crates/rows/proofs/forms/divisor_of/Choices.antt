@@ -1,5 +1,4 @@
 use mathlib.Core.Path.{_≡_}
-use lib.IntN.{natAbs}
 use lib.ListN.{take}
 use Rattle.calculus.specs.Arithmetic.{common}
 use Rattle.rows.proofs.forms.divisor_of.Given as given

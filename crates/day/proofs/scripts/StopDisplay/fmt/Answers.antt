@@ -1,5 +1,5 @@
 use mathlib.Core.List.{List}
-use mathlib.Core.Path.{_≡_, sym, ap, subst}
+use mathlib.Core.Path.{sym, ap, subst}
 use Prim.Native.Nat.{ℕ}
 use Rattle.std.specs.Written.{Put}
 use Rattle.day.specs.Scripts.{stop-worded}

@@ -1,4 +1,3 @@
-use native.Mathlib.Omega.{arith}
 use Rattle.std.specs.Of.Vec.{vec-len}
 use borrow.Author.Needs.{needs}
 use Rattle.rows.proofs.Flat.{row-inside}

@@ -1,14 +1,13 @@
-use mathlib.Core.Path.{_≡_, refl, sym, ap, _∙_}
-use mathlib.Core.Bool.{Bool}
+use mathlib.Core.Path.{refl, sym, ap, _∙_}
 use mathlib.Core.List.{List}
 use native.Mathlib.Omega.{arith}
 use lib.IntN.{ℤ, pos}
-use lib.ListN.{getD, length, take, drop}
-use Prim.Native.Nat.{_*_, _<_}
+use lib.ListN.{getD, length, drop}
+use Prim.Native.Nat.{_*_}
 use Rattle.std.specs.Of.Vec.{vec-items, vec-len}
 use Rattle.std.proofs.shelf.Lists.{drop-all}
 use Rattle.calculus.specs.Account.{standing}
-use Rattle.calculus.specs.Rows.{Standing, double, doubled}
+use Rattle.calculus.specs.Rows.{double, doubled}
 use Rattle.rows.specs.Store.{rows-of}
 use Rattle.rows.specs.declared.forms.Header.{Header}
 use Rattle.rows.proofs.Flat.{any-step, any-stop, rows-more}

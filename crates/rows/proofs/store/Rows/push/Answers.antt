@@ -1,4 +1,3 @@
-use mathlib.Core.Bool.{true}
 use mathlib.Core.List.{_++_}
 use mathlib.Core.Path.{_≡_, sym, ap, _∙_}
 use Prim.Native.Nat.{_+_, _*_, _≤_}
@@ -6,7 +5,6 @@ use native.Mathlib.Nat.{add-mul, mul-le-mul-right, mul-le-mul-left}
 use native.Mathlib.Omega.{arith}
 use lib.ListN.{length}
 use Rattle.std.specs.Of.Vec.{vec-len, vec-items, vec-cap}
-use Rattle.std.specs.Results.{isOk}
 use Rattle.rows.specs.Store.{rows-of, account-of}
 use Rattle.rows.proofs.Flat.{rows-push, flat-push}
 use Rattle.rows.proofs.store.Rows.push.Needs as need

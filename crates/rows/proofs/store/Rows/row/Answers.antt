@@ -10,7 +10,7 @@ use mir.Val.{SFits}
 use Rattle.std.specs.Of.Vec.{vec-items, vec-len}
 use Rattle.std.proofs.shelf.Maps.{nth-past}
 use Rattle.std.proofs.shelf.Signed.{toZ-ofZ}
-use Rattle.std.specs.declared.option.Option.the-variants.{Some, None}
+use Rattle.std.specs.declared.option.Option.the-variants.{Some}
 use Rattle.calculus.specs.Account.{standing}
 use Rattle.rows.specs.Store.{account-of}
 use Rattle.rows.specs.declared.forms.Header.{Header}

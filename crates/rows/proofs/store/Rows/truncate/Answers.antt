@@ -1,5 +1,5 @@
 use mathlib.Core.Path.{_≡_, sym, ap, _∙_}
-use Prim.Native.Nat.{_*_, _≤_, min}
+use Prim.Native.Nat.{_*_, min}
 use native.Mathlib.Omega.{arith}
 use Rattle.std.specs.Of.Vec.{vec-len, vec-items}
 use lib.ListN.{take}

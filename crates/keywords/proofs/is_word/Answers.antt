@@ -1,7 +1,7 @@
 use Rattle.std.specs.shelf.Text.{sameBytes}
 use Rattle.std.proofs.shelf.Equals.{matches-decides, sameBytes-decides}
 use Rattle.std.proofs.shelf.Ways.{same-from-decides}
-use Rattle.script.proofs.keywords.is_word.Needs as need
+use Rattle.keywords.proofs.is_word.Needs as need
 
 pub returns : need.returns
 returns c =

@@ -7,10 +7,10 @@ use Rattle.std.specs.Options.{mapped}
 use Rattle.std.specs.shelf.Text.{sameBytes}
 use Rattle.std.specs.declared.option.Option.{Option}
 use Rattle.std.specs.declared.option.Option.the-variants.{None, Some}
-use Rattle.script.specs.declared.keywords.Keyword.{Keyword}
-use Rattle.script.specs.declared.keywords.Keyword.the-variants.{Draft, Unknown, Settle, Add, Mark, Return, Rows, Later as Not-yet}
-use Rattle.script.specs.declared.keywords.Later.{Later}
-use Rattle.script.specs.declared.keywords.Later.the-variants.{Search, Check, Log, Frames, Lines}
+use Rattle.keywords.specs.declared.Keyword.{Keyword}
+use Rattle.keywords.specs.declared.Keyword.the-variants.{Draft, Unknown, Settle, Add, Mark, Return, Rows, Later as Not-yet}
+use Rattle.keywords.specs.declared.Later.{Later}
+use Rattle.keywords.specs.declared.Later.the-variants.{Search, Check, Log, Frames, Lines}
 
 -- the word of a command that is not offered yet
 abbrev pub later-word : Later → List ℕ

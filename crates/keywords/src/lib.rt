@@ -1,5 +1,6 @@
-// The words that a command begins with.
-ghost use Rattle.script.specs.Keywords.{named, named-later, later-word};
+// The words that a command of the day script begins with. They are a crate of their own because a crate that holds the
+// name of a tactic, as the first of the words below is, is checked twice.
+ghost use Rattle.keywords.specs.Keywords.{named, named-later, later-word};
 ghost use Rattle.std.specs.shelf.Text.{sameBytes};
 ghost use mathlib.Core.Path.{_≡_};
 
@@ -15,7 +16,7 @@ pub enum Later {
 
 impl Later {
     // The word of the command.
-    pub(crate) fn word(self) -> &'static str
+    pub fn word(self) -> &'static str
         ensures { λ r. ⌜ now r ≡ later-word self ⌝ }
     {
         match self {
@@ -30,7 +31,7 @@ impl Later {
 
 // What a command's first word asks for.
 #[derive(Clone, Copy)]
-pub(crate) enum Keyword {
+pub enum Keyword {
     Draft,
     Unknown,
     Settle,
@@ -70,7 +71,7 @@ fn later_of(word: &[u8]) -> Option<Later>
 }
 
 // The command that a word begins.
-pub(crate) fn keyword_of(word: &[u8]) -> Option<Keyword>
+pub fn keyword_of(word: &[u8]) -> Option<Keyword>
     ensures { λ r. ⌜ r ≡ named (now (word .entry)) ⌝ }
 {
     if is_word(word, b"draft") {

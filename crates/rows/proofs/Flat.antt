@@ -15,7 +15,7 @@ use Rattle.std.proofs.shelf.Tests.{cases-lt}
 use Rattle.calculus.specs.Account.{standing}
 use Rattle.calculus.specs.Rows.{Standing}
 use Rattle.rows.specs.Store.{rows-of, marks-of}
-use Rattle.rows.specs.declared.forms.Header.{Header}
+use Rattle.forms.specs.declared.doubles.Header.{Header}
 use Rattle.rows.specs.declared.store.Mark.{Mark}
 
 pub rows-length : (n : ℕ) (hs : List Header) (cs : List ℤ) → length (rows-of n hs cs) ≡ length hs

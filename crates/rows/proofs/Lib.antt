@@ -1,3 +1,2 @@
-mod Coefficients
 pub mod Flat
 pub mod Counts

@@ -8,7 +8,7 @@ use Rattle.std.specs.Of.Vec.{vec-items, vec-len}
 use Rattle.calculus.specs.Account.{Account, standing}
 use Rattle.calculus.specs.Rows.{Standing}
 use Rattle.calculus.specs.declared.ranges.Range.{Range}
-use Rattle.rows.specs.declared.forms.Header.{Header}
+use Rattle.forms.specs.declared.doubles.Header.{Header}
 use Rattle.rows.specs.declared.store.Blank.{Blank}
 use Rattle.rows.specs.declared.store.Mark.{Mark}
 use Rattle.rows.specs.declared.store.RowView.{RowView}

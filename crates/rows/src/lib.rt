@@ -1,6 +1,4 @@
-// The ranges and the standing rows of a ticket with their marks, and the whole-number arithmetic below them.
-mod arithmetic;
-mod forms;
+// The ranges and the standing rows of a ticket with their marks.
 mod store;
 
 pub use store::Blank;

@@ -6,8 +6,8 @@ ghost use mathlib.Core.List.{[]};
 ghost use mathlib.Core.Path.{_≡_};
 ghost use Rattle.std.specs.Of.Vec.{vec-cap, vec-items, vec-len};
 ghost use Rattle.calculus.specs.Limits.{most-unknowns, most-rows, most-marks, end-limit};
-use crate::forms::Header;
 use calculus::Range;
+use forms::Header;
 
 mod calls;
 mod making;

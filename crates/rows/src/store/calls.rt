@@ -9,13 +9,13 @@ ghost use Rattle.calculus.specs.Rows.{doubled};
 ghost use Rattle.std.specs.Of.Vec.{vec-len};
 ghost use Rattle.rows.specs.Store.{account-of};
 use super::Rows;
-use crate::forms::Header;
-use crate::forms::is_double;
 use calculus::MAX_COEFFICIENT;
 use calculus::MAX_CONSTANT;
 use calculus::MAX_MARKS;
 use calculus::MAX_ROWS;
 use calculus::Refusal;
+use forms::Header;
+use forms::is_double;
 
 // Whether a coefficient lies outside its limits.
 fn is_heavy(coefficient: i32) -> bool

@@ -8,7 +8,7 @@ ghost use Rattle.calculus.specs.Limits.{most-rows};
 ghost use Rattle.rows.specs.Store.{account-of, with-first};
 use super::Mark;
 use super::Rows;
-use crate::forms::Header;
+use forms::Header;
 
 impl Rows {
     // How many coefficients a row has.

@@ -9,7 +9,7 @@ use Rattle.std.proofs.shelf.Lists.{drop-all}
 use Rattle.calculus.specs.Account.{standing}
 use Rattle.calculus.specs.Rows.{double, doubled}
 use Rattle.rows.specs.Store.{rows-of}
-use Rattle.rows.specs.declared.forms.Header.{Header}
+use Rattle.forms.specs.declared.doubles.Header.{Header}
 use Rattle.rows.proofs.Flat.{any-step, any-stop, rows-more}
 use Rattle.rows.proofs.store.Rows.has_double.Needs as need
 

@@ -13,7 +13,7 @@ use Rattle.std.proofs.shelf.Signed.{toZ-ofZ}
 use Rattle.std.specs.declared.option.Option.the-variants.{Some}
 use Rattle.calculus.specs.Account.{standing}
 use Rattle.rows.specs.Store.{account-of}
-use Rattle.rows.specs.declared.forms.Header.{Header}
+use Rattle.forms.specs.declared.doubles.Header.{Header}
 use Rattle.rows.proofs.Counts.{rows-count}
 use Rattle.rows.proofs.Flat.{rows-at}
 use Rattle.rows.proofs.store.Rows.row.Needs as need

@@ -6,8 +6,8 @@ use native.Mathlib.Omega.{arith}
 use borrow.Author.Differences.{ints}
 use Rattle.std.specs.Numbers.{divEuclid}
 use Rattle.calculus.specs.Arithmetic.{floor}
-use Rattle.rows.proofs.Coefficients.{div-is-floor, floor-size}
-use Rattle.rows.proofs.arithmetic.ceil_div.Needs as need
+use Rattle.forms.proofs.Coefficients.{div-is-floor, floor-size}
+use Rattle.forms.proofs.arithmetic.ceil_div.Needs as need
 
 pub returns : need.returns
 returns c =

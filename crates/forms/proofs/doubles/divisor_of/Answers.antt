@@ -10,7 +10,7 @@ use Rattle.std.proofs.shelf.Lists.{take-all}
 use Rattle.std.proofs.shelf.Signed.{toZ-ofZ}
 use Rattle.std.proofs.shelf.Sums.{folded-more}
 use Rattle.calculus.specs.Arithmetic.{common, divisor}
-use Rattle.rows.proofs.forms.divisor_of.Needs as need
+use Rattle.forms.proofs.doubles.divisor_of.Needs as need
 
 pub loop-c-again : need.loop-c-again
 loop-c-again c =

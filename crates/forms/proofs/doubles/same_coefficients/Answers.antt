@@ -7,8 +7,8 @@ use native.Mathlib.Omega.{arith}
 use borrow.Author.Needs.{needs}
 use Rattle.std.proofs.shelf.Signed.{toZ-ofZ}
 use Rattle.calculus.specs.Arithmetic.{floor}
-use Rattle.rows.proofs.Coefficients.{same-step, same-stop, same-all}
-use Rattle.rows.proofs.forms.same_coefficients.Needs as need
+use Rattle.forms.proofs.Coefficients.{same-step, same-stop, same-all}
+use Rattle.forms.proofs.doubles.same_coefficients.Needs as need
 
 pub returns-then-not-same-quotient : need.returns-then-not-same-quotient
 returns-then-not-same-quotient c =

@@ -3,7 +3,7 @@ use mathlib.Core.List.{map}
 use lib.ListN.{drop}
 use Rattle.calculus.specs.Arithmetic.{floor}
 use Rattle.calculus.specs.Rows.{same-numbers}
-use Rattle.rows.proofs.forms.same_coefficients.Given as given
+use Rattle.forms.proofs.doubles.same_coefficients.Given as given
 
 abbrev pub Inv-loop-i : given.InvT-loop-i
 Inv-loop-i l =

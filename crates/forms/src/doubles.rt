@@ -63,7 +63,7 @@ fn same_coefficients(left: &[i32], left_by: u32, right: &[i32], right_by: u32) -
 }
 
 // Whether one row is a double of the other.
-pub(crate) fn is_double(left: Header, left_row: &[i32], right: Header, right_row: &[i32]) -> bool
+pub fn is_double(left: Header, left_row: &[i32], right: Header, right_row: &[i32]) -> bool
     requires { ⌜ length (now «left_row») ≡ length (now «right_row») ⌝ }
     ensures { λ r. ⌜ r ≡ double (standing (left .label) (now («left_row» .entry)) (left .constant)) (standing (right .label) (now («right_row» .entry)) (right .constant)) ⌝ }
 {

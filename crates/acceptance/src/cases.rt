@@ -40,17 +40,14 @@ impl Found {
     }
 }
 
-// Appends the text with the digits for each `@`.
+// Appends the text with the digits for its `@`, if it has one.
 fn push_counted(out: &mut String, text: &str, digits: &str) -> Result<(), AllocError> {
-    let mut first = true;
-    for piece in text.split('@') {
-        if !first {
-            out.push_str(digits)?;
-        }
-        out.push_str(piece)?;
-        first = false;
-    }
-    Ok(())
+    let Some((before, after)) = text.split_once('@') else {
+        return out.push_str(text);
+    };
+    out.push_str(before)?;
+    out.push_str(digits)?;
+    out.push_str(after)
 }
 
 // Appends what follows a mark: ` LINE`, `. LINE` or `*N LINE`.

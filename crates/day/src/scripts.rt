@@ -16,12 +16,12 @@ use crate::stages::Stage;
 use rows::RowView;
 use rows::Rows;
 use script::Answer;
+use script::AnswerDisplay;
 use script::Command;
 use script::Expected;
 use script::ExpectedDisplay;
 use script::Fault;
 use script::read_command;
-use script::write_answer;
 use script::write_row;
 use std::alloc::AllocError;
 use std::alloc::Global;
@@ -51,6 +51,16 @@ fn end_line(out: &mut String) -> Result<(), AllocError>
     ensures { λ r. ⌜ made r (λ _. string-bytes (now (out .exit)) ≡ line (string-bytes (now (out .entry)))) ⌝ }
 {
     out.push('\n')
+}
+
+// Appends the words of an answer.
+fn write_answer(out: &mut String, answer: Answer) -> Result<(), AllocError>
+    ensures { λ r. ⌜ made r (λ _. string-bytes (now (out .exit)) ≡ string-bytes (now (out .entry)) ++ worded answer) ⌝ }
+{
+    match write!(out, "{answer}") {
+        Ok(()) => Ok(()),
+        Err(_) => Err(AllocError),
+    }
 }
 
 // Prints an answer.

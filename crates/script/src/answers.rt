@@ -50,16 +50,6 @@ pub impl fmt::Display for Answer as AnswerDisplay {
     }
 }
 
-// Appends the words of an answer.
-pub fn write_answer(out: &mut String, answer: Answer) -> Result<(), AllocError>
-    ensures { λ r. ⌜ made r (λ _. string-bytes (now (out .exit)) ≡ string-bytes (now (out .entry)) ++ worded answer) ⌝ }
-{
-    match write!(out, "{answer}") {
-        Ok(()) => Ok(()),
-        Err(_) => Err(AllocError),
-    }
-}
-
 // Appends a label.
 fn write_label(out: &mut String, label: u8) -> Result<(), AllocError>
     ensures { λ r. ⌜ made r (λ _. string-bytes (now (out .exit)) ≡ string-bytes (now (out .entry)) ++ decimal label) ⌝ }

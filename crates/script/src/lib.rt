@@ -8,7 +8,6 @@ mod words;
 
 pub use answers::Answer;
 pub use answers::AnswerDisplay;
-pub use answers::write_answer;
 pub use answers::write_row;
 pub use commands::Command;
 pub use commands::read_command;

@@ -1,4 +1,6 @@
 // Runs tables of cases and compares what comes out with what should.
+#![tactic(auto)]
+
 ghost use Rattle.std.specs.Prelude.{◌≡◌, ◌<◌, ◌≤◌, false};
 
 mod cases;

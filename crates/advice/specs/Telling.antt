@@ -1,5 +1,5 @@
 -- Telling an adviser what it chose.
-use Rattle.std.specs.Prelude.{◌≡◌, ℕ, ◌<◌, List, ℤ, Some, None, Option, ◌≢◌}
+use Rattle.std.specs.Prelude.{ℕ, ◌<◌, List, ℤ, Some, None, Option, ◌≢◌}
 use Rattle.calculus.specs.Advice.{Advice, told}
 use Rattle.calculus.specs.Rows.{coef}
 use Rattle.calculus.specs.declared.sides.Side.{Side}

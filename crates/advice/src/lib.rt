@@ -1,4 +1,6 @@
 // Advisers: what one is, and the steady, blaming and turned ones.
+#![tactic(auto)]
+
 mod advisers;
 mod blamers;
 mod choosers;

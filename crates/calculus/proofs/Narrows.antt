@@ -8,7 +8,7 @@ use Rattle.calculus.specs.Bounds.{Trail, low, high}
 use Rattle.calculus.specs.Logs.{Line, line_row, fields_of, Written, written}
 use Rattle.calculus.specs.RunLaws.{Grown}
 use Rattle.calculus.specs.Rows.{Row, coef}
-use Rattle.calculus.specs.Tightening.{plus, fits, matches, reason_of, lacking, Narrowing, going, stopped, outcome, summed_by, summed, aside}
+use Rattle.calculus.specs.Tightening.{plus, matches, reason_of, lacking, Narrowing, going, stopped, outcome, summed_by, summed, aside}
 use Rattle.calculus.specs.Tightening.{matched, narrowed_by, narrowed}
 use Rattle.calculus.specs.declared.kinds.Kind.TheVariants.{Sum}
 use Rattle.calculus.specs.declared.ranges.Range.{Range}

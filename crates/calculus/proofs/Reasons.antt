@@ -1,6 +1,6 @@
 -- The log's half of the invariant: each implied entry has a tight line for its reason, each decided one a partner that has.
 -- It lasts as the log grows. Rests on Firm, Resolving and Covering.
-use Rattle.std.proofs.Common.{◌≡◌, ℕ, ◌+◌, ◌<◌, ◌≤◌, Bool, true, false, ◌||◌, List, [], ◌∷◌, ◌++◌, length, ℤ, ◌≤ℤ◌, ◌<ℤ◌, sym, refl, ap, ◌∙◌, subst, arith}
+use Rattle.std.proofs.Common.{◌≡◌, ℕ, ◌<◌, ◌≤◌, Bool, true, false, ◌||◌, List, [], ◌∷◌, ◌++◌, length, ℤ, ◌≤ℤ◌, ◌<ℤ◌, sym, refl, ap, ◌∙◌, subst, arith}
 use mathlib.Core.Path.{transport}
 use borrow.Author.Differences.{ints}
 use Rattle.std.proofs.lemmas.List.{length-append, get_or_append_left}

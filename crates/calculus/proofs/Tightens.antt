@@ -1,5 +1,5 @@
 -- Tightening ends in a tight row whose bound is at least as good as that of the row it was given. Rests on Narrows.
-use Rattle.std.proofs.Common.{◌≡◌, ℕ, zero, suc, ◌%◌, ◌<◌, ◌≤◌, Bool, true, false, ◌&&◌, leb, List, [], length, ℤ, pos, negsuc, ◌+ℤ◌, ◌-ℤ◌, ◌*ℤ◌, neg_ℤ, nat_abs, ◌≤ℤ◌, ◌<ℤ◌, Some, Ok, Err, sym, refl, ap, ◌∙◌, subst, arith, eq-eqb}
+use Rattle.std.proofs.Common.{◌≡◌, ℕ, zero, suc, ◌%◌, ◌<◌, Bool, true, false, ◌&&◌, leb, List, [], length, ℤ, pos, negsuc, ◌+ℤ◌, ◌-ℤ◌, ◌*ℤ◌, neg_ℤ, nat_abs, ◌≤ℤ◌, ◌<ℤ◌, Some, Ok, Err, sym, refl, ap, ◌∙◌, subst, arith, eq-eqb}
 use mathlib.Core.Path.{transport}
 use native.Mathlib.Nat.{mod_self}
 use borrow.Author.Differences.{ints}

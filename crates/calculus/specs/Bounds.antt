@@ -1,5 +1,5 @@
 -- Present lows and highs, the least value of a row, failing, and better bounds.
-use Rattle.std.specs.Prelude.{ℕ, zero, suc, ◌+◌, Bool, true, false, ◌&&◌, List, [], ◌∷◌, length, ℤ, pos, negsuc, ◌+ℤ◌, ◌*ℤ◌, neg_ℤ, None, Option, ◌==◌, int_le, int_lt, slice_index_or, slice_set}
+use Rattle.std.specs.Prelude.{ℕ, zero, suc, Bool, true, false, ◌&&◌, List, [], ◌∷◌, length, ℤ, pos, negsuc, ◌+ℤ◌, ◌*ℤ◌, neg_ℤ, None, Option, ◌==◌, int_le, int_lt, slice_index_or, slice_set}
 use Rattle.calculus.specs.Arithmetic.{sum, floor, ceiling}
 use Rattle.calculus.specs.Rows.{Row, coef}
 use Rattle.calculus.specs.Tables.{table, picked, first_place, first_answer}

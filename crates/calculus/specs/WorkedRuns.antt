@@ -1,5 +1,5 @@
 -- Worked runs, frames and checks, computed from the definitions.
-use Rattle.std.specs.Prelude.{◌≡◌, ℕ, List, [], ◌∷◌, ◌++◌, length, take, set, replicate, ℤ, pos, negsuc, Some, None, codes, slice_set}
+use Rattle.std.specs.Prelude.{◌≡◌, ℕ, List, [], ◌∷◌, ◌++◌, length, take, replicate, ℤ, pos, negsuc, Some, None, codes, slice_set}
 use Rattle.std.specs.List.{flat_map}
 use Rattle.calculus.specs.Account.{standing}
 use Rattle.calculus.specs.Advice.{Advice, steady, turned}

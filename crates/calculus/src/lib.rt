@@ -1,4 +1,6 @@
 // The rules of the planner as definitions, the small types that all crates share, and the laws of both.
+#![tactic(auto)]
+
 mod endings;
 mod kinds;
 mod laws;

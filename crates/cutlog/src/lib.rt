@@ -1,4 +1,6 @@
 // Logs: what a log is, the log in numbers, and the quota over any log.
+#![tactic(auto)]
+
 mod lines;
 mod logs;
 mod numbers;

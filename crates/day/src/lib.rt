@@ -1,4 +1,6 @@
 // A day script, run: each line read, its command done through the ticket, its answer worded.
+#![tactic(auto)]
+
 mod commands;
 mod laws;
 mod lines;

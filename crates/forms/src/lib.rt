@@ -1,4 +1,6 @@
 // Whole-number arithmetic, reduced forms and doubles.
+#![tactic(auto)]
+
 mod arithmetic;
 mod doubles;
 

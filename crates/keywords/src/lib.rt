@@ -1,5 +1,7 @@
 // The words that a command of the day script begins with. They are a crate of their own because a crate that holds the
 // name of a tactic, as the first of the words below is, is checked twice.
+#![tactic(auto)]
+
 ghost use Rattle.keywords.specs.Keywords.{named, named_later, later_word};
 ghost use Rattle.std.specs.Str.{bytes_eq};
 ghost use Rattle.std.specs.Prelude.{◌≡◌};

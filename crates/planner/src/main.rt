@@ -1,7 +1,10 @@
 // The launch-day planner: runs a day script and prints its answers.
+#![tactic(auto)]
+
 use anyhow::anyhow;
 use day::run_script;
 use std::io::Read;
+use std::process::ExitCode;
 use std::{env, fs};
 
 // The file that the first argument names, or standard input where there is none.
@@ -31,10 +34,10 @@ fn run(rt: &HostRuntime) -> anyhow::Result<()> {
     }
 }
 
-fn main(rt: HostRuntime) -> anyhow::Result<()> {
+fn main(rt: HostRuntime) -> anyhow::Result<ExitCode> {
     let Err(error) = run(&rt) else {
-        return Ok(());
+        return Ok(ExitCode::SUCCESS);
     };
     eprintln!(rt; "planner: {error}")?;
-    Err(error)
+    Ok(ExitCode::FAILURE)
 }

@@ -1,4 +1,6 @@
 // The ranges and the standing rows of a ticket with their marks.
+#![tactic(auto)]
+
 mod store;
 
 pub use store::{Blank, RowView, Rows};

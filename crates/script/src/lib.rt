@@ -1,4 +1,6 @@
 // The day script: what a line of it says, and how an answer is worded. Running a command is done elsewhere.
+#![tactic(auto)]
+
 mod answers;
 mod commands;
 mod faults;

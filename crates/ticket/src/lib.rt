@@ -1,4 +1,6 @@
 // What users call: a draft takes unknowns, settling it gives a ticket, and a ticket takes rows.
+#![tactic(auto)]
+
 mod drafts;
 mod tickets;
 

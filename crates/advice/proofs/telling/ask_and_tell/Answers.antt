@@ -7,8 +7,8 @@ returns g c =
     let kept = g.met.A.Adviser.kept c.args.adviser.now in
     record {
       answer = c.ask-choice.ensures;
-      after = c.tell-choice.ensures;
-      same = told_long a (g.A.Adviser.advice c.tell-choice.new.adviser) c.ask-choice.result kept c.tell-choice.ensures;
+      after = c.tell_choice.ensures;
+      same = told_long a (g.A.Adviser.advice c.tell_choice.new.adviser) c.ask-choice.result kept c.tell_choice.ensures;
       unfixed = chosen_open a.mind.order c.args.lows.now c.args.highs.now c.ask-choice.result kept.orderly
           c.ask-choice.ensures;
     }

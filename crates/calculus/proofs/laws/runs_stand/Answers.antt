@@ -1,3 +1,4 @@
+use Rattle.std.proofs.Common.{refl}
 use Rattle.calculus.proofs.Appending.{append_writes, start_writes}
 use Rattle.calculus.proofs.Running.{ended_stays, rest_stays, same_machines, larger_budget, soon_due, run_rests, run_answers, moves_within}
 use Rattle.calculus.proofs.Running.{spent_is_budget, step_appends, log_after, log_same}

@@ -21,23 +21,23 @@ cut text end from h e same =
 rest_shorter : (text : List ℕ) (from : ℕ) → 0 < from → from ≤ length text → length (take (length text - from) (drop from text)) < length text
 rest_shorter text from h k = let e = ap length (take_rest text from) ∙ length-drop from text in omega arith
 
-pub returns-then-is-empty : goal.returns-then-is-empty
-returns-then-is-empty c =
-    let e = eqb-true (length c.args.text.now) 0 (sym c.if-is-empty.ensures) in
+pub returns-then-is_empty : goal.returns-then-is_empty
+returns-then-is_empty c =
+    let e = eqb-true (length c.args.text.now) 0 (sym c.if-is_empty.ensures) in
     ap lines (nil_from_length c.args.text.now e)
 
 pub returns-then-end-text : goal.returns-then-end-text
 returns-then-end-text c =
     let text = c.args.text.now in
-    let end = c.line-len-end.result in
-    let some : 0 < length c.args.text.now = lengthy (length c.args.text.now) (sym c.if-is-empty.ensures) in
-    let none = drop_all c.line-len-end.result c.args.text.now (omega arith) in
-    let past = drop_all (suc c.line-len-end.result) c.args.text.now (omega arith) in
-    (cut text end end some c.line-len-end.ensures.value (ap lines (none ∙ sym past)), rest_shorter text end (omega arith) (omega arith))
+    let end = c.line_len-end.result in
+    let some : 0 < length c.args.text.now = lengthy (length c.args.text.now) (sym c.if-is_empty.ensures) in
+    let none = drop_all c.line_len-end.result c.args.text.now (omega arith) in
+    let past = drop_all (suc c.line_len-end.result) c.args.text.now (omega arith) in
+    (cut text end end some c.line_len-end.ensures.value (ap lines (none ∙ sym past)), rest_shorter text end (omega arith) (omega arith))
 
 pub returns : goal.returns
 returns c =
     let text = c.args.text.now in
-    let end = c.line-len-end.result in
-    let some : 0 < length c.args.text.now = lengthy (length c.args.text.now) (sym c.if-is-empty.ensures) in
-    (cut text end (end + 1) some c.line-len-end.ensures.value (ap (λ n. lines (drop n text)) (add-one end)), rest_shorter text (end + 1) (omega arith) (omega arith))
+    let end = c.line_len-end.result in
+    let some : 0 < length c.args.text.now = lengthy (length c.args.text.now) (sym c.if-is_empty.ensures) in
+    (cut text end (end + 1) some c.line_len-end.ensures.value (ap (λ n. lines (drop n text)) (add-one end)), rest_shorter text (end + 1) (omega arith) (omega arith))

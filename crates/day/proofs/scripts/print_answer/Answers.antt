@@ -5,4 +5,4 @@ use Rattle.day.proofs.scripts.print_answer.Goals as goal
 
 pub returns : goal.returns
 returns c =
-    ended (string_bytes c.args.out.now) (worded c.args.answer) (string_bytes c.write-answer.new.out) _ c.in-ok-write-answer.ensures c.in-ok-end-line.ensures
+    ended (string_bytes c.args.out.now) (worded c.args.answer) (string_bytes c.write_answer.new.out) _ c.in_ok-write_answer.ensures c.in_ok-end_line.ensures

@@ -8,8 +8,8 @@ use Rattle.day.proofs.scripts.print_rows.Goals as goal
 pub loop-row-init : goal.loop-row-init
 loop-row-init c = refl
 
-pub overflow-add-place : goal.overflow-add-place
-overflow-add-place c =
+pub overflow_add-place : goal.overflow_add-place
+overflow_add-place c =
     let h = nth_inside (account_of c.args.rows.now).rows c.loop-row.place _ c.in-Some.ensures in
     let n = rows_count c.args.rows.now in
     let few = c.args.rows.now.headers_few in
@@ -23,8 +23,8 @@ loop-row-smaller c =
 pub loop-row-preserved : goal.loop-row-preserved
 loop-row-preserved c =
     printed_more row_line (account_of c.args.rows.now).rows c.loop-row.place _ (string_bytes c.loop-row.out) _ _
-    c.in-Some.ensures c.in-ok-print-row.ensures c.loop-row.invariant
+    c.in-Some.ensures c.in_ok-print_row.ensures c.loop-row.invariant
 
 pub returns : goal.returns
 returns c =
-    printed_all row_line (account_of c.args.rows.now).rows c.loop-row.place (string_bytes c.loop-row.out) _ c.in-default.ensures c.loop-row.invariant
+    printed_all row_line (account_of c.args.rows.now).rows c.loop-row.place (string_bytes c.loop-row.out) _ c.in_default.ensures c.loop-row.invariant

@@ -7,6 +7,6 @@ use Rattle.day.proofs.scripts.print_turn.Goals as goal
 pub returns : goal.returns
 returns c =
     let listed = listing (state_of c.args.stage.now) (said c.args.command.now) in
-    c.in-ok-print-listing.ensures
-    ∙ ap (λ (bs : List ℕ). bs ++ listed) c.in-ok-print-answer.ensures
+    c.in_ok-print_listing.ensures
+    ∙ ap (λ (bs : List ℕ). bs ++ listed) c.in_ok-print_answer.ensures
     ∙ append_assoc (string_bytes c.args.out.now) (line (worded c.args.answer)) listed

@@ -7,4 +7,4 @@ pub returns-then-b-eq0 : goal.returns-then-b-eq0
 returns-then-b-eq0 t c = sym (divisor_zero c.args.a) ∙ ap (divisor c.args.a) (sym c.if-b-eq0.true)
 
 pub returns-else-b-eq0 : goal.returns-else-b-eq0
-returns-else-b-eq0 t c = c.common-divisor.ensures ∙ sym (divisor_step c.args.a c.args.b (omega arith))
+returns-else-b-eq0 t c = c.common_divisor.ensures ∙ sym (divisor_step c.args.a c.args.b (omega arith))

@@ -10,8 +10,8 @@ returns c =
     let at = c.args.place in
     let row = c.args.row.now in
     record {
-      cells = c.write-row.ensures.cells
-          ∙ ap (λ ws. paste ws (at + 5) row (length row)) c.write-fields.ensures
+      cells = c.write_row.ensures.cells
+          ∙ ap (λ ws. paste ws (at + 5) row (length row)) c.write_fields.ensures
           ∙ paste_paste d (spelled c.args.fields []) row at 5 (length row) (at + 5) refl refl (omega (arith, c.requires)) (omega arith);
-      back = c.write-row.ensures.back;
+      back = c.write_row.ensures.back;
     }

@@ -30,39 +30,39 @@ returns-then-coefficients-width c =
     let shape : eqb (length c.args.coefficients.now) (length (account_of c.args.self.now).ranges) ≡ false = ne_eqb _ _ (λ e. c.if-coefficients-width.true (omega arith)) in
     record { answer = simp (shape); account = simp (shape) }
 
-pub returns-then-is-overweight : goal.returns-then-is-overweight
-returns-then-is-overweight c =
+pub returns-then-is_overweight : goal.returns-then-is_overweight
+returns-then-is_overweight c =
     let n = ranges_count c.args.self.now in
     let shape : eqb (length c.args.coefficients.now) (length (account_of c.args.self.now).ranges) ≡ true = eq-eqb _ _ (omega arith) in
-    let weight = weighs c.args.coefficients.now c.args.constant true c.ranges.constant c.if-is-overweight.ensures in
+    let weight = weighs c.args.coefficients.now c.args.constant true c.ranges.constant c.if-is_overweight.ensures in
     record { answer = simp (shape, weight); account = simp (shape, weight) }
 
 pub returns-then-label-eq0 : goal.returns-then-label-eq0
 returns-then-label-eq0 c =
     let n = ranges_count c.args.self.now in
     let shape : eqb (length c.args.coefficients.now) (length (account_of c.args.self.now).ranges) ≡ true = eq-eqb _ _ (omega arith) in
-    let weight = weighs c.args.coefficients.now c.args.constant false c.ranges.constant c.if-is-overweight.ensures in
+    let weight = weighs c.args.coefficients.now c.args.constant false c.ranges.constant c.if-is_overweight.ensures in
     let label : eqb c.args.label 0 ≡ true = eq-eqb _ _ c.if-label-eq0.true in
     record { answer = simp (shape, weight, label); account = simp (shape, weight, label) }
 
-pub returns-then-has-double : goal.returns-then-has-double
-returns-then-has-double c =
+pub returns-then-has_double : goal.returns-then-has_double
+returns-then-has_double c =
     let n = ranges_count c.args.self.now in
     let shape : eqb (length c.args.coefficients.now) (length (account_of c.args.self.now).ranges) ≡ true = eq-eqb _ _ (omega arith) in
-    let weight = weighs c.args.coefficients.now c.args.constant false c.ranges.constant c.if-is-overweight.ensures in
+    let weight = weighs c.args.coefficients.now c.args.constant false c.ranges.constant c.if-is_overweight.ensures in
     let label : eqb c.args.label 0 ≡ false = ne_eqb _ _ c.if-label-eq0.false in
-    let same = cast_back c.args.coefficients.now c.args.constant c.ranges.constant c.if-is-overweight.ensures in
-    let double : doubled (account_of c.args.self.now).rows (standing c.args.label c.args.coefficients.now c.args.constant) ≡ true = sym (simp same at c.if-has-double.ensures) in
+    let same = cast_back c.args.coefficients.now c.args.constant c.ranges.constant c.if-is_overweight.ensures in
+    let double : doubled (account_of c.args.self.now).rows (standing c.args.label c.args.coefficients.now c.args.constant) ≡ true = sym (simp same at c.if-has_double.ensures) in
     record { answer = simp (shape, weight, label, double); account = simp (shape, weight, label, double) }
 
-pub returns-then-count-ge-MAX-ROWS : goal.returns-then-count-ge-MAX-ROWS
-returns-then-count-ge-MAX-ROWS c =
+pub returns-then-count-ge-MAX_ROWS : goal.returns-then-count-ge-MAX_ROWS
+returns-then-count-ge-MAX_ROWS c =
     let n = ranges_count c.args.self.now in
     let shape : eqb (length c.args.coefficients.now) (length (account_of c.args.self.now).ranges) ≡ true = eq-eqb _ _ (omega arith) in
-    let weight = weighs c.args.coefficients.now c.args.constant false c.ranges.constant c.if-is-overweight.ensures in
+    let weight = weighs c.args.coefficients.now c.args.constant false c.ranges.constant c.if-is_overweight.ensures in
     let label : eqb c.args.label 0 ≡ false = ne_eqb _ _ c.if-label-eq0.false in
-    let same = cast_back c.args.coefficients.now c.args.constant c.ranges.constant c.if-is-overweight.ensures in
-    let double : doubled (account_of c.args.self.now).rows (standing c.args.label c.args.coefficients.now c.args.constant) ≡ false = sym (simp same at c.if-has-double.ensures) in
+    let same = cast_back c.args.coefficients.now c.args.constant c.ranges.constant c.if-is_overweight.ensures in
+    let double : doubled (account_of c.args.self.now).rows (standing c.args.label c.args.coefficients.now c.args.constant) ≡ false = sym (simp same at c.if-has_double.ensures) in
     let r = rows_count c.args.self.now in
     let full : leb most_rows (length (account_of c.args.self.now).rows) ≡ true = le-leb _ _ (omega arith) in
     record { answer = simp (shape, weight, label, double, full); account = simp (shape, weight, label, double, full) }
@@ -71,10 +71,10 @@ pub returns : goal.returns
 returns c =
     let n = ranges_count c.args.self.now in
     let shape : eqb (length c.args.coefficients.now) (length (account_of c.args.self.now).ranges) ≡ true = eq-eqb _ _ (omega arith) in
-    let weight = weighs c.args.coefficients.now c.args.constant false c.ranges.constant c.if-is-overweight.ensures in
+    let weight = weighs c.args.coefficients.now c.args.constant false c.ranges.constant c.if-is_overweight.ensures in
     let label : eqb c.args.label 0 ≡ false = ne_eqb _ _ c.if-label-eq0.false in
-    let same = cast_back c.args.coefficients.now c.args.constant c.ranges.constant c.if-is-overweight.ensures in
-    let double : doubled (account_of c.args.self.now).rows (standing c.args.label c.args.coefficients.now c.args.constant) ≡ false = sym (simp same at c.if-has-double.ensures) in
+    let same = cast_back c.args.coefficients.now c.args.constant c.ranges.constant c.if-is_overweight.ensures in
+    let double : doubled (account_of c.args.self.now).rows (standing c.args.label c.args.coefficients.now c.args.constant) ≡ false = sym (simp same at c.if-has_double.ensures) in
     let r = rows_count c.args.self.now in
     let full : leb most_rows (length (account_of c.args.self.now).rows) ≡ false = lt-leb _ _ (omega arith) in
     record {

@@ -7,19 +7,19 @@ use Rattle.forms.specs.declared.doubles.Header.{Header}
 use Rattle.rows.proofs.Flat.{any_step, any_stop, rows_more}
 use Rattle.rows.proofs.store.Rows.has_double.Goals as goal
 
-pub returns-then-is-double : goal.returns-then-is-double
-returns-then-is-double c =
+pub returns-then-is_double : goal.returns-then-is_double
+returns-then-is_double c =
     let t = c.args.self.now in
     let none : Header = record { label = 0; constant = pos 0 } in
     let s = standing c.args.added.label c.args.row.now c.args.added.constant in
     let hs = c.deref-header-items.ensures.value in
     let l = ap (λ (gs : List Header). length gs) hs in
-    let is = c.is-double.ensures
-    ∙ ap (λ (gs : List Header). double (standing (get_or gs c.loop-i.i none).label c.coefficients-at.result.now (get_or gs c.loop-i.i none).constant) s) hs
-    ∙ ap (λ (xs : List ℤ). double (standing (get_or (vec_items t.headers) c.loop-i.i none).label xs (get_or (vec_items t.headers) c.loop-i.i none).constant) s) c.coefficients-at.ensures.items in
-    any_stop (λ rs. doubled rs s) (λ r. double r s) (λ _ _. refl) _ _ _ c.is-double.result _
+    let is = c.is_double.ensures
+    ∙ ap (λ (gs : List Header). double (standing (get_or gs c.loop-i.i none).label c.coefficients_at.result.now (get_or gs c.loop-i.i none).constant) s) hs
+    ∙ ap (λ (xs : List ℤ). double (standing (get_or (vec_items t.headers) c.loop-i.i none).label xs (get_or (vec_items t.headers) c.loop-i.i none).constant) s) c.coefficients_at.ensures.items in
+    any_stop (λ rs. doubled rs s) (λ r. double r s) (λ _ _. refl) _ _ _ c.is_double.result _
     (rows_more (vec_len t.spans) c.loop-i.i (vec_items t.headers) (vec_items t.coefficients) none (omega arith))
-    is c.loop-i.invariant c.if-is-double.true
+    is c.loop-i.invariant c.if-is_double.true
 
 pub loop-i-preserved : goal.loop-i-preserved
 loop-i-preserved c =
@@ -28,12 +28,12 @@ loop-i-preserved c =
     let s = standing c.args.added.label c.args.row.now c.args.added.constant in
     let hs = c.deref-header-items.ensures.value in
     let l = ap (λ (gs : List Header). length gs) hs in
-    let is = c.is-double.ensures
-    ∙ ap (λ (gs : List Header). double (standing (get_or gs c.loop-i.i none).label c.coefficients-at.result.now (get_or gs c.loop-i.i none).constant) s) hs
-    ∙ ap (λ (xs : List ℤ). double (standing (get_or (vec_items t.headers) c.loop-i.i none).label xs (get_or (vec_items t.headers) c.loop-i.i none).constant) s) c.coefficients-at.ensures.items in
-    any_step (λ rs. doubled rs s) (λ r. double r s) (λ _ _. refl) _ _ _ c.is-double.result _
+    let is = c.is_double.ensures
+    ∙ ap (λ (gs : List Header). double (standing (get_or gs c.loop-i.i none).label c.coefficients_at.result.now (get_or gs c.loop-i.i none).constant) s) hs
+    ∙ ap (λ (xs : List ℤ). double (standing (get_or (vec_items t.headers) c.loop-i.i none).label xs (get_or (vec_items t.headers) c.loop-i.i none).constant) s) c.coefficients_at.ensures.items in
+    any_step (λ rs. doubled rs s) (λ r. double r s) (λ _ _. refl) _ _ _ c.is_double.result _
     (rows_more (vec_len t.spans) c.loop-i.i (vec_items t.headers) (vec_items t.coefficients) none (omega arith))
-    is c.loop-i.invariant c.if-is-double.false
+    is c.loop-i.invariant c.if-is_double.false
 
 pub returns : goal.returns
 returns c =

@@ -6,8 +6,8 @@ use Rattle.rows.proofs.Counts.{rows_count, marks_count}
 use Rattle.rows.proofs.Flat.{marks_push}
 use Rattle.rows.proofs.store.Rows.mark.Goals as goal
 
-pub returns-then-mark-count-ge-MAX-MARKS : goal.returns-then-mark-count-ge-MAX-MARKS
-returns-then-mark-count-ge-MAX-MARKS c =
+pub returns-then-mark_count-ge-MAX_MARKS : goal.returns-then-mark_count-ge-MAX_MARKS
+returns-then-mark_count-ge-MAX_MARKS c =
     let n = marks_count c.args.self.now in
     let full : leb most_marks (length (account_of c.args.self.now).marks) ≡ true = le-leb _ _ (omega arith) in
     record { answer = simp full; account = simp full }
@@ -17,8 +17,8 @@ returns c =
     let n = marks_count c.args.self.now in
     let room : leb most_marks (length (account_of c.args.self.now).marks) ≡ false = lt-leb _ _ (omega arith) in
     let ms = vec_items c.args.self.now.marks in
-    let here : c.mark-here-mark.result.rows ≡ length (account_of c.args.self.now).rows = c.mark-here-mark.ensures ∙ sym (rows_count c.args.self.now) in
-    let pushed = ap marks_of c.push-reserved.ensures.items ∙ marks_push ms c.mark-here-mark.result ∙ ap (λ k. k ∷ marks_of ms) here in
+    let here : c.mark_here-mark.result.rows ≡ length (account_of c.args.self.now).rows = c.mark_here-mark.ensures ∙ sym (rows_count c.args.self.now) in
+    let pushed = ap marks_of c.push_reserved.ensures.items ∙ marks_push ms c.mark_here-mark.result ∙ ap (λ k. k ∷ marks_of ms) here in
     let t = account_of c.args.self.now in
     record {
       answer = simp room;

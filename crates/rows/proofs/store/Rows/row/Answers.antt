@@ -21,9 +21,9 @@ returns c =
     let f : SFits w32 c.index-header.result.now.constant = search rules in
     let at = rows_at (vec_len t.spans) c.args.place (vec_items t.headers) (vec_items t.coefficients) h (omega arith) in
     let here : h ≡ get_or (vec_items t.headers) c.args.place h = c.index-header.ensures in
-    let cs = c.coefficients-at.ensures.items in
+    let cs = c.coefficients_at.ensures.items in
     let k = to_z-of_z w32 h.constant f in
-    ap (λ (z : ℤ). Some (standing h.label c.coefficients-at.result.now z)) k
+    ap (λ (z : ℤ). Some (standing h.label c.coefficients_at.result.now z)) k
     ∙ ap (λ (xs : List ℤ). Some (standing h.label xs h.constant)) cs
     ∙ ap (λ (g : Header). Some (standing g.label (take (vec_len t.spans) (drop (c.args.place * vec_len t.spans) (vec_items t.coefficients))) g.constant)) here
     ∙ sym at

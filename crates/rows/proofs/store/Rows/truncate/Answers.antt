@@ -1,16 +1,7 @@
-use Rattle.std.proofs.Common.{◌≡◌, ◌*◌, min, take, vec_items, vec_len, sym, ap, ◌∙◌, arith}
+use Rattle.std.proofs.Common.{take, vec_items, vec_len, ap, ◌∙◌}
 use Rattle.rows.specs.Store.{rows_of, account_of}
-use Rattle.rows.proofs.Flat.{rows_take, flat_take}
+use Rattle.rows.proofs.Flat.{rows_take}
 use Rattle.rows.proofs.store.Rows.truncate.Goals as goal
-
-pub invariant-of-self : goal.invariant-of-self
-invariant-of-self c =
-    let t = c.args.self.now in
-    let flat = flat_take (vec_len t.spans) c.args.rows (vec_len t.headers) in
-    let held : vec_len c.truncate-2.new.self ≡ min c.args.rows (vec_len t.headers) = omega arith in
-    let long : vec_len c.truncate.new.self ≡ min (c.args.rows * vec_len t.spans) (vec_len t.headers * vec_len t.spans) = omega arith in
-    let same : vec_len c.truncate.new.self ≡ vec_len c.truncate-2.new.self * vec_len t.spans = long ∙ flat ∙ ap (λ n. n * vec_len t.spans) (sym held) in
-    (omega arith, (omega arith, (omega arith, (same, (omega arith, (omega arith, (omega arith, tt)))))))
 
 pub returns : goal.returns
 returns c =

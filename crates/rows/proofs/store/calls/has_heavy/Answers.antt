@@ -7,19 +7,19 @@ use Rattle.calculus.specs.Limits.{added_coefficient_limit}
 use Rattle.rows.proofs.Flat.{any_step, any_stop}
 use Rattle.rows.proofs.store.calls.has_heavy.Goals as goal
 
-pub returns-then-is-heavy : goal.returns-then-is-heavy
-returns-then-is-heavy c =
+pub returns-then-is_heavy : goal.returns-then-is_heavy
+returns-then-is_heavy c =
     let f : SFits w32 (get_or c.args.coefficients.now c.loop-c.c-index (pos 0)) = search rules in
-    any_stop heavy (λ z. not (near added_coefficient_limit z)) (λ _ _. refl) _ _ _ c.is-heavy.result _
+    any_stop heavy (λ z. not (near added_coefficient_limit z)) (λ _ _. refl) _ _ _ c.is_heavy.result _
     (drop_more c.args.coefficients.now c.loop-c.c-index (pos 0) c.loop-c-test.true)
-    (simp to_z-of_z at c.is-heavy.ensures) c.loop-c.invariant c.if-is-heavy.true
+    (simp to_z-of_z at c.is_heavy.ensures) c.loop-c.invariant c.if-is_heavy.true
 
 pub loop-c-preserved : goal.loop-c-preserved
 loop-c-preserved c =
     let f : SFits w32 (get_or c.args.coefficients.now c.loop-c.c-index (pos 0)) = search rules in
-    any_step heavy (λ z. not (near added_coefficient_limit z)) (λ _ _. refl) _ _ _ c.is-heavy.result _
+    any_step heavy (λ z. not (near added_coefficient_limit z)) (λ _ _. refl) _ _ _ c.is_heavy.result _
     (drop_more c.args.coefficients.now c.loop-c.c-index (pos 0) c.loop-c-test.true)
-    (simp to_z-of_z at c.is-heavy.ensures) c.loop-c.invariant c.if-is-heavy.false
+    (simp to_z-of_z at c.is_heavy.ensures) c.loop-c.invariant c.if-is_heavy.false
 
 pub returns : goal.returns
 returns c = sym (at_drop_all heavy c.args.coefficients.now c.loop-c.c-index c.loop-c-test.false) ∙ c.loop-c.invariant

@@ -1,4 +1,4 @@
-use Rattle.std.proofs.Common.{sym, ◌∙◌, le_trans, arith}
+use Rattle.std.proofs.Common.{sym, ◌∙◌, le_trans}
 use Rattle.calculus.proofs.Advising.{three_advised}
 use Rattle.advice.proofs.Opens.{numbered, numbered_none, numbered_some, asked, unasked_low, unasked_high}
 use Rattle.advice.proofs.steadies.calls.SteadyAdviser.ask.Goals as goal
@@ -16,14 +16,14 @@ returns-then-lows-self c =
       | then-lows-self-via-else-lows-self+then-highs-self w ↦ sym (unasked_high (numbered m) m lows highs long w.if-highs-self.true)
     ]
 
-pub returns-then-not-is-fixed : goal.returns-then-not-is-fixed
-returns-then-not-is-fixed c =
+pub returns-then-not-is_fixed : goal.returns-then-not-is_fixed
+returns-then-not-is_fixed c =
     let m = c.args.self.now.unknowns in
     let lows = c.args.lows.now in
     let highs = c.args.highs.now in
     sym (asked (numbered m) m lows highs (three_advised.0 m) c.if-lows-self.false c.if-highs-self.false
     ∙ numbered_some m c.loop-unknown.unknown lows highs c.loop-unknown-test.true c.loop-unknown.invariant
-    (sym c.if-not-is-fixed.ensures))
+    (sym c.if-not-is_fixed.ensures))
 
 pub returns : goal.returns
 returns c =

@@ -6,5 +6,5 @@ use Rattle.advice.proofs.turners.calls.TurnedAdviser.ask.Goals as goal
 
 pub returns : goal.returns
 returns g c =
-    c.turned-choice.ensures ∙ ap (option_map turned_pair) c.ask.ensures
+    c.turned_choice.ensures ∙ ap (option_map turned_pair) c.ask.ensures
     ∙ choice_turned (g.A.Adviser.advice c.args.self.now.inner).mind.order c.args.lows.now c.args.highs.now

@@ -9,7 +9,7 @@ pub returns-then-line-room : goal.returns-then-line-room
 returns-then-line-room c =
     let s = c.args.self.now in
     let long = lines_long s.unknowns s.held (memory_of s) in
-    let shape : eqb (length c.args.row.now) (suc s.unknowns) ≡ true = sym c.if-not-is-shaped.ensures in
+    let shape : eqb (length c.args.row.now) (suc s.unknowns) ≡ true = sym c.if-not-is_shaped.ensures in
     let full : leb (fitting s.unknowns (vec_len s.cells)) (length (book_of s).lines) ≡ true = le-leb _ _ (omega arith) in
     record { answer = simp (shape, full); book = simp (shape, full); memory = simp (shape, full); untouched = refl }
 
@@ -18,7 +18,7 @@ returns c =
     let s = c.args.self.now in
     let long = lines_long s.unknowns s.held (memory_of s) in
     let line : c.lines-line.result ≡ length (book_of s).lines = c.lines-line.ensures ∙ sym long in
-    let shape : eqb (length c.args.row.now) (suc s.unknowns) ≡ true = sym c.if-not-is-shaped.ensures in
+    let shape : eqb (length c.args.row.now) (suc s.unknowns) ≡ true = sym c.if-not-is_shaped.ensures in
     let free : leb (fitting s.unknowns (vec_len s.cells)) (length (book_of s).lines) ≡ false = lt-leb _ _ (omega arith) in
     record {
       answer = simp (shape, free) (ap Ok line);

@@ -23,20 +23,20 @@ returns-then-line-lines c =
           ∙ entry_past s.unknowns (memory_of s) (q * line_size s.unknowns + 5) e (omega (arith, w.if-place-self.true)))
     ]
 
-pub i32-at-requires : goal.i32-at-requires
-i32-at-requires c =
+pub i32_at-requires : goal.i32_at-requires
+i32_at-requires c =
     let s = c.args.self.now in
     let fits = line_fits s.unknowns c.args.line (vec_len s.cells) (omega (arith, s.within)) in
-    omega (arith, c.start.ensures, c.as-slice.ensures.len)
+    omega (arith, c.start.ensures, c.as_slice.ensures.len)
 
 pub returns : goal.returns
 returns c =
     let s = c.args.self.now in
     let e = c.args.place in
-    let f : SFits w32 c.i32-at.result = search rules in
-    to_z-of_z w32 c.i32-at.result f
-    ∙ c.i32-at.ensures
-    ∙ ap (λ ws. entry_in (coef ws (c.start.result + 5 + e))) c.as-slice.ensures.value
+    let f : SFits w32 c.i32_at.result = search rules in
+    to_z-of_z w32 c.i32_at.result f
+    ∙ c.i32_at.ensures
+    ∙ ap (λ ws. entry_in (coef ws (c.start.result + 5 + e))) c.as_slice.ensures.value
     ∙ ap (λ at. entry_in (coef (memory_of s) (at + 5 + e))) c.start.ensures
     ∙ sym (ap (λ (l : Line). coef (entries l.row) e) (line_held s.unknowns s.held (memory_of s) c.args.line (omega arith))
     ∙ entry_held s.unknowns (memory_of s) (c.args.line * line_size s.unknowns + 5) e (omega arith))

@@ -1,7 +1,7 @@
 -- Logs are accepted: lines that are made as their kinds say and keep to their limits are justified and fit their fields, and a log of
 -- them whose last line contradicts passes a check. Rests on Good and on Reduction.
 use Rattle.std.proofs.Common.{◌≡◌, ℕ, suc, ◌<◌, ◌≤◌, Bool, true, false, not, ◌&&◌, eqb, ltb, List, [], ◌∷◌, ◌++◌, length, take, Some, None, Ok, Option, Result, sym, refl, ap, ◌∙◌, subst, arith}
-use Rattle.std.specs.List.{AllByRecursion as All}
+use Rattle.std.specs.List.{AllByRecursion}
 use Rattle.std.proofs.ByRecursion.{All-get_or, All-from_get_or}
 use Rattle.std.proofs.lemmas.List.{append-nil, append_assoc, length-take-le}
 use Rattle.std.proofs.lemmas.Bool.{and_parts, and_from, ltb-true, lt-ltb, le-leb, eq-eqb}
@@ -89,7 +89,7 @@ made_justified rs rows ls l made slim =
 
 -- ---- a whole log
 
-pub good_justified : (rs : List Range) (rows : List Row) (ls : List Line) → Good rs rows ls → All (Slim (length rs)) ls →
+pub good_justified : (rs : List Range) (rows : List Row) (ls : List Line) → Good rs rows ls → AllByRecursion (Slim (length rs)) ls →
     (q : ℕ) → q < length ls → Justified rs rows (take q ls) (line_at ls q)
 good_justified rs rows ls good slim q l =
     made_justified rs rows (take q ls) (line_at ls q) (good q l) (All-get_or (Slim (length rs)) ls q no_line l slim)
@@ -114,7 +114,7 @@ found_nothing true None true held p q r = refl
 
 -- a check accepts a log of such lines whose last one contradicts, and each of them is justified
 pub good_accepted : (rs : List Range) (rows : List Standing) (log : Logbook) → Good rs (rows_of rows) log.lines →
-    All (Slim (length rs)) log.lines → closes log.lines ≡ true → log.unknowns ≡ length rs →
+    AllByRecursion (Slim (length rs)) log.lines → closes log.lines ≡ true → log.unknowns ≡ length rs →
     (check_end rs rows log ≡ None) × AllJustified rs rows log.lines
 good_accepted rs rows log good slim h n =
     let each = good_justified rs (rows_of rows) log.lines good slim in (
@@ -151,8 +151,8 @@ made_fields rs rows ls l made slim a b c =
     (subst (λ (f : Fields). f.m ≤ multiplier_limit) made.fields slim.m_fits))
 
 -- the fields of every line fit
-pub good_fields : (rs : List Range) (rows : List Row) (ls : List Line) → Good rs rows ls → All (Slim (length rs)) ls →
-    length rs ≤ most_unknowns → length rows ≤ most_rows → length ls ≤ most_lines → All (λ l. FieldsFit l.fields) ls
+pub good_fields : (rs : List Range) (rows : List Row) (ls : List Line) → Good rs rows ls → AllByRecursion (Slim (length rs)) ls →
+    length rs ≤ most_unknowns → length rows ≤ most_rows → length ls ≤ most_lines → AllByRecursion (λ l. FieldsFit l.fields) ls
 good_fields rs rows ls good slim a b c =
     All-from_get_or (λ l. FieldsFit l.fields) ls no_line
     (λ q l. let long = length-take-le q ls (omega arith) in

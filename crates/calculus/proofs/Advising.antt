@@ -1,6 +1,6 @@
 -- Laws of advisers: what the three kinds keep to, what a choice is, and that a run leaves an adviser as good as it found it.
 use Rattle.std.proofs.Common.{◌≡◌, ℕ, zero, suc, ◌+◌, ◌<◌, Bool, true, false, cond, ◌&&◌, eqb, ltb, List, [], ◌∷◌, ◌++◌, map, length, ℤ, Some, None, Ok, Err, Result, sym, refl, ap, ◌∙◌, subst, inl, inr, arith}
-use Rattle.std.specs.List.{AllByRecursion as All}
+use Rattle.std.specs.List.{AllByRecursion}
 use Rattle.std.proofs.lemmas.List.{length-append, length-map}
 use Rattle.std.proofs.lemmas.Bool.Decides.{nat_tests}
 use Rattle.calculus.specs.Advice.{Order, Mind, Advice, advised, named, Orderly, Keeps, Advises, open_or, first_open, only_if, choice}
@@ -164,7 +164,7 @@ record Leading (o : Order) (lows highs : List ℤ) (p : ℕ × Side) : Type 0 wh
   pub front : Order
   pub rest : Order
   pub is : o ≡ front ++ p ∷ rest
-  pub passed : All (λ q. coef lows q.0 ≡ coef highs q.0) front
+  pub passed : AllByRecursion (λ q. coef lows q.0 ≡ coef highs q.0) front
 
 leads_by : (b : Bool) (q : ℕ × Side) (o : Order) (lows highs : List ℤ) (p : ℕ × Side) → Fixed lows highs q.0 ≡ b →
     open_or b q (first_open o lows highs) ≡ Some p → (first_open o lows highs ≡ Some p → Leading o lows highs p) →

@@ -1,6 +1,6 @@
 -- The first refusal that applies has the smallest number, each refusal stands once in the table, and a return undoes its mark.
 use Rattle.std.proofs.Common.{◌≡◌, ℕ, ◌≤◌, Bool, true, false, List, [], ◌∷◌, length, Err, sym, refl, ap, ◌∙◌, subst, le_trans, arith}
-use Rattle.std.specs.List.{AllByRecursion as All}
+use Rattle.std.specs.List.{AllByRecursion}
 use Rattle.std.proofs.ByRecursion.{All-weaker}
 use Rattle.std.proofs.lemmas.List.{take_at}
 use Rattle.std.proofs.lemmas.Bool.Decides.{nat_tests}
@@ -20,14 +20,14 @@ rising_head : (n : ℕ) (t : Test) (ts : List Test) → rising n (t ∷ ts) ≡ 
     (n ≤ number t.refusal) × (rising (number t.refusal) ts ≡ true)
 rising_head n t ts h = (grind (arith, nat_tests), grind (arith, nat_tests))
 
-rising_all : (n : ℕ) (ts : List Test) → rising n ts ≡ true → All (λ t. n ≤ number t.refusal) ts
+rising_all : (n : ℕ) (ts : List Test) → rising n ts ≡ true → AllByRecursion (λ t. n ≤ number t.refusal) ts
 rising_all n [] h = tt
 rising_all n (t ∷ ts) h =
     let p = rising_head n t ts h in
     (p.0, All-weaker _ _ (λ u k. le_trans p.0 k) ts (rising_all (number t.refusal) ts p.1))
 
 abbrev LeastOf : Refusal → List Test → Type 0
-LeastOf r ts = All (λ t. t.applies ≡ true → number r ≤ number t.refusal) ts
+LeastOf r ts = AllByRecursion (λ t. t.applies ≡ true → number r ≤ number t.refusal) ts
 
 smallest_by : {A : Type 0} (given : A) (b : Bool) (n : ℕ) (t : Test) (ts : List Test) (r : Refusal) → t.applies ≡ b →
     rising n (t ∷ ts) ≡ true →

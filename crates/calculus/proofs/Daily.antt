@@ -1,6 +1,6 @@
 -- The whole day: the account keeps its rows within their limits, so every promise holds at every call.
 use Rattle.std.proofs.Common.{◌≡◌, ℕ, zero, suc, ◌<◌, ◌≤◌, Bool, true, false, not, ◌||◌, eqb, leb, ◌⊎◌, List, [], ◌∷◌, ◌++◌, length, ℤ, None, Ok, Err, Option, Result, sym, refl, ap, ◌∙◌, subst, inl, inr, arith}
-use Rattle.std.specs.List.{AllByRecursion as All}
+use Rattle.std.specs.List.{AllByRecursion}
 use Rattle.std.proofs.ByRecursion.{All-append, All-take}
 use Rattle.std.proofs.lemmas.List.{length-append, length-take}
 use Rattle.std.proofs.lemmas.Bool.Decides.{nat_tests}
@@ -284,7 +284,7 @@ answered_at a [] b i h l = absurd (omega arith)
 answered_at a (e ∷ es) b zero h l = h.0
 answered_at a (e ∷ es) b (suc i) h l = answered_at (account_after a e.call) es b i h.1 (omega arith)
 
-fair_at : (es : List Event) (i : ℕ) → i < length es → All (λ e. Fair e.call) es → Fair (event_at es i).call
+fair_at : (es : List Event) (i : ℕ) → i < length es → AllByRecursion (λ e. Fair e.call) es → Fair (event_at es i).call
 fair_at [] i l h = absurd (omega arith)
 fair_at (e ∷ es) zero l h = h.0
 fair_at (e ∷ es) (suc i) l h = fair_at es i (omega arith) h.1

@@ -2,7 +2,7 @@
 use Rattle.std.proofs.Common.{◌≡◌, ℕ, zero, suc, ◌%◌, ◌<◌, ◌≤◌, max, List, [], ◌∷◌, ℤ, pos, nat_abs, fold, sym, refl, ap, ◌∙◌, subst, le_refl, not-suc-le-zero, mod-lt, arith}
 use Prim.Native.Nat.{◌∣◌}
 use native.Mathlib.Nat.{dvd_refl, dvd-zero, dvd-mod_iff, dvd_trans, one-dvd}
-use Rattle.std.specs.List.{AllByRecursion as All}
+use Rattle.std.specs.List.{AllByRecursion}
 use Rattle.std.proofs.ByRecursion.{All-weaker}
 use Rattle.calculus.specs.Arithmetic.{divisor_within, divisor, common}
 use Rattle.calculus.specs.Rows.{row_divisor}
@@ -59,21 +59,21 @@ greatest d a b p q = greatest_within b d a b p q
 abbrev onward : ℕ → List ℤ → ℕ
 onward g cs = fold (λ g c. divisor g (nat_abs c)) g cs
 
-onward_divides : (g : ℕ) (cs : List ℤ) → (onward g cs ∣ g) × All (λ c. onward g cs ∣ nat_abs c) cs
+onward_divides : (g : ℕ) (cs : List ℤ) → (onward g cs ∣ g) × AllByRecursion (λ c. onward g cs ∣ nat_abs c) cs
 onward_divides g [] = (dvd_refl g, tt)
 onward_divides g (c ∷ cs) =
     let rest = onward_divides (divisor g (nat_abs c)) cs in
     let both = divides_both g (nat_abs c) in
     (dvd_trans _ rest.0 both.0, (dvd_trans _ rest.0 both.1, rest.1))
 
-pub common_divides : (cs : List ℤ) → All (λ c. common cs ∣ nat_abs c) cs
+pub common_divides : (cs : List ℤ) → AllByRecursion (λ c. common cs ∣ nat_abs c) cs
 common_divides cs = (onward_divides 0 cs).1
 
-onward_greatest : (d g : ℕ) (cs : List ℤ) → d ∣ g → All (λ c. d ∣ nat_abs c) cs → d ∣ onward g cs
+onward_greatest : (d g : ℕ) (cs : List ℤ) → d ∣ g → AllByRecursion (λ c. d ∣ nat_abs c) cs → d ∣ onward g cs
 onward_greatest d g [] p q = p
 onward_greatest d g (c ∷ cs) p q = onward_greatest d (divisor g (nat_abs c)) cs (greatest d g (nat_abs c) p q.0) q.1
 
-pub common_greatest : (d : ℕ) (cs : List ℤ) → All (λ c. d ∣ nat_abs c) cs → d ∣ common cs
+pub common_greatest : (d : ℕ) (cs : List ℤ) → AllByRecursion (λ c. d ∣ nat_abs c) cs → d ∣ common cs
 common_greatest d cs q = onward_greatest d 0 cs (dvd-zero d) q
 
 max_one : (g n : ℕ) → g ∣ n → max 1 g ∣ n
@@ -81,13 +81,13 @@ max_one zero n h = one-dvd n
 max_one (suc g) n h = let e : max 1 (suc g) ≡ suc g = omega arith in subst (λ (m : ℕ). m ∣ n) (sym e) h
 
 -- the row's divisor divides each coefficient
-pub row_divides : (cs : List ℤ) → All (λ c. row_divisor cs ∣ nat_abs c) cs
+pub row_divides : (cs : List ℤ) → AllByRecursion (λ c. row_divisor cs ∣ nat_abs c) cs
 row_divides cs = All-weaker _ _ (λ c h. max_one (common cs) (nat_abs c) h) cs (common_divides cs)
 
-common_zero : (cs : List ℤ) → All (λ c. c ≡ pos 0) cs → onward 0 cs ≡ 0
+common_zero : (cs : List ℤ) → AllByRecursion (λ c. c ≡ pos 0) cs → onward 0 cs ≡ 0
 common_zero [] h = refl
 common_zero (c ∷ cs) h = ap (λ (z : ℤ). onward (divisor 0 (nat_abs z)) cs) h.0 ∙ ap (λ (g : ℕ). onward g cs) (divisor_zero 0) ∙
     common_zero cs h.1
 
-pub row_divisor_plain : (cs : List ℤ) → All (λ c. c ≡ pos 0) cs → row_divisor cs ≡ 1
+pub row_divisor_plain : (cs : List ℤ) → AllByRecursion (λ c. c ≡ pos 0) cs → row_divisor cs ≡ 1
 row_divisor_plain cs h = ap (λ (g : ℕ). max 1 g) (common_zero cs h)

@@ -4,7 +4,7 @@
 use Rattle.std.proofs.Common.{◌≡◌, ℕ, zero, suc, ◌+◌, ◌<◌, ◌≤◌, Bool, true, false, eqb, ◌⊎◌, List, [], ◌∷◌, length, ℤ, pos, ◌≤ℤ◌, ◌<ℤ◌, Some, sym, refl, ap, ◌∙◌, subst, inl, inr, ⊎_elim, arith}
 use borrow.Author.Differences.{ints}
 use lib.Signed.{lt_z}
-use Rattle.std.specs.List.{AllByRecursion as All}
+use Rattle.std.specs.List.{AllByRecursion}
 use Rattle.std.proofs.lemmas.List.{get_or_past}
 use Rattle.std.proofs.lemmas.Int.{by_lt_z}
 use Rattle.std.proofs.lemmas.Bool.{and_parts, and_from, and_left, and_right, or_parts, cases_lt, eqb-true, eq-eqb, ne_eqb, false≢true}
@@ -186,7 +186,7 @@ firm_within rs t o f s x =
 good_order : (r : Range) → bad_range r.low r.high ≡ false → r.low ≤ℤ r.high
 good_order r h = let p = (or_parts (lt_z r.high r.low) _ h).0 in omega (arith, ints)
 
-all_order : (rs : List Range) → All (λ r. bad_range r.low r.high ≡ false) rs → InOrder rs
+all_order : (rs : List Range) → AllByRecursion (λ r. bad_range r.low r.high ≡ false) rs → InOrder rs
 all_order [] h x = omega (arith, ints)
 all_order (r ∷ rs) h zero = good_order r h.0
 all_order (r ∷ rs) h (suc x) = all_order rs h.1 x

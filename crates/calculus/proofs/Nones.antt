@@ -1,7 +1,7 @@
 -- After none: every line is justified, a check accepts the log, and no assignment is left. It rests on the run's invariant with its log,
 -- on the limits of lines, and on the soundness of logs.
 use Rattle.std.proofs.Common.{◌≡◌, ℕ, zero, suc, ◌≤◌, Bool, true, false, not, ◌||◌, eqb, List, [], ◌∷◌, length, ℤ, pos, None, Ok, Err, Result, refl, le_trans, arith}
-use Rattle.std.specs.List.{AllByRecursion as All}
+use Rattle.std.specs.List.{AllByRecursion}
 use Rattle.std.proofs.lemmas.List.{length-map, get_or_past}
 use Rattle.std.proofs.lemmas.Bool.Decides.{nat_tests}
 use Rattle.calculus.specs.Account.{when, answered}
@@ -30,7 +30,7 @@ use Rattle.calculus.proofs.SoundLogs.{good_excludes}
 use Rattle.calculus.proofs.Starting.{FitContext, whole_well}
 
 -- rows with one coefficient for each unknown have none past the unknowns
-pub thin_rows : (n : ℕ) (rows : List Standing) → All (λ s. length s.row.coefs ≡ n) rows → (p : ℕ) → Bare n (row_at (rows_of rows) p)
+pub thin_rows : (n : ℕ) (rows : List Standing) → AllByRecursion (λ s. length s.row.coefs ≡ n) rows → (p : ℕ) → Bare n (row_at (rows_of rows) p)
 thin_rows n [] h p y l = refl
 thin_rows n (s ∷ rows) h zero y l = let e = h.0 in get_or_past s.row.coefs y (pos 0) (omega arith)
 thin_rows n (s ∷ rows) h (suc p) y l = thin_rows n rows h.1 p y l
@@ -44,15 +44,15 @@ phase_sound (ended NoPlan) c t ls w = w.0
 phase_sound (ended (Refused r)) c t ls w = w
 
 -- slim lines with fitting fields fit
-lines_fit : (n : ℕ) (ls : List Line) → All (Slim n) ls → All (λ l. FieldsFit l.fields) ls → All (LineFits n) ls
+lines_fit : (n : ℕ) (ls : List Line) → AllByRecursion (Slim n) ls → AllByRecursion (λ l. FieldsFit l.fields) ls → AllByRecursion (LineFits n) ls
 lines_fit n [] s f = tt
 lines_fit n (l ∷ ls) s f = ((f.0, s.0.shaped, s.0.fit), lines_fit n ls s.1 f.1)
 
 -- What holds of the lines of every run.
 record RunLines (rs : List Range) (rows : List Standing) (ls : List Line) : Type 0 where
   pub good : Good rs (rows_of rows) ls
-  pub slim : All (Slim (length rs)) ls
-  pub fit : All (LineFits (length rs)) ls
+  pub slim : AllByRecursion (Slim (length rs)) ls
+  pub fit : AllByRecursion (LineFits (length rs)) ls
 
 fit_context : (rs : List Range) (rows : List Standing) (log : Logbook) → FitRanges rs → FitRows rs rows →
     FitContext (context_of rs (rows_of rows) log)
@@ -76,7 +76,7 @@ run_lines rs rows a log budget fr fs most =
 lines_by : (r : Result (Unit {0}) Refusal) (rs : List Range) (rows : List Standing) (a : Advice) (log : Logbook) (plan : List ℤ)
     (budget : ℕ) → FitRanges rs → FitRows rs rows → log.capacity ≤ most_lines → r ≡ Ok tt →
     let end = left_by r rs (rows_of rows) a log plan budget in
-    AllJustified rs rows end.log.lines × All (LineFits (length rs)) end.log.lines
+    AllJustified rs rows end.log.lines × AllByRecursion (LineFits (length rs)) end.log.lines
 lines_by (Err r) rs rows a log plan budget fr fs most e = let z : ◌≡◌ {A = ℕ} 0 1 = cc in absurd (omega arith)
 lines_by (Ok u) rs rows a log plan budget fr fs most e =
     let l = run_lines rs rows a log budget fr fs most in
@@ -98,7 +98,7 @@ none_well (ended (Refused r)) c m h e w = let z : ◌≡◌ {A = ℕ} 0 1 = cc i
 abbrev Shown : List Range → List Standing → Logbook → Type 0
 Shown rs rows log =
     AllJustified rs rows log.lines
-    × All (LineFits (length rs)) log.lines
+    × AllByRecursion (LineFits (length rs)) log.lines
     × (closes log.lines ≡ true)
     × (check_end rs rows log ≡ None)
     × Excluded rs rows

@@ -4,7 +4,7 @@ use Prim.Native.Nat.{◌∣◌}
 use native.Mathlib.Nat.{mul-div_cancel'}
 use borrow.Author.Differences.{ints}
 use lib.IntN.{*ℤ-zero}
-use Rattle.std.specs.List.{AllByRecursion as All}
+use Rattle.std.specs.List.{AllByRecursion}
 use Rattle.std.proofs.lemmas.Bool.Decides.{Decides-and}
 use Rattle.calculus.specs.Arithmetic.{sum, floor, ceiling, same_number}
 use Rattle.calculus.specs.Rows.{Row, Standing, coef, value, Meets, row_divisor, reduced, same_numbers, same_row, double}
@@ -25,7 +25,7 @@ floor_exact g c p d =
     let q = quotient g c d in
     ap (λ (z : ℤ). pos g *ℤ floor z g) q.1 ∙ ap (λ (z : ℤ). pos g *ℤ z) (floor_times q.0 g p) ∙ sym q.1
 
-divided : (g : ℕ) (cs : List ℤ) (i : ℕ) → 0 < g → All (λ c. g ∣ nat_abs c) cs → pos g *ℤ coef (map (λ c. floor c g) cs) i ≡ coef cs i
+divided : (g : ℕ) (cs : List ℤ) (i : ℕ) → 0 < g → AllByRecursion (λ c. g ∣ nat_abs c) cs → pos g *ℤ coef (map (λ c. floor c g) cs) i ≡ coef cs i
 divided g [] i p h = *ℤ-zero (pos g)
 divided g (c ∷ cs) zero p h = floor_exact g c p h.0
 divided g (c ∷ cs) (suc i) p h = divided g cs i p h.1
@@ -53,7 +53,7 @@ floors_one : (cs : List ℤ) → map (λ c. floor c 1) cs ≡ cs
 floors_one [] = refl
 floors_one (c ∷ cs) = ap (λ (z : ℤ). z ∷ map (λ c. floor c 1) cs) (floor_one c) ∙ ap (λ (zs : List ℤ). c ∷ zs) (floors_one cs)
 
-pub reduced_plain : (r : Row) → All (λ c. c ≡ pos 0) r.coefs → reduced r ≡ r
+pub reduced_plain : (r : Row) → AllByRecursion (λ c. c ≡ pos 0) r.coefs → reduced r ≡ r
 reduced_plain r h =
     ap (λ (g : ℕ). record { coefs = map (λ c. floor c g) r.coefs; constant = ceiling r.constant g }) (row_divisor_plain r.coefs h)
     ∙ ap (λ (cs : List ℤ). record { coefs = cs; constant = ceiling r.constant 1 }) (floors_one r.coefs)

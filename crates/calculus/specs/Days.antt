@@ -1,6 +1,6 @@
 -- A whole day at the level of the account: any calls in any order, their answers, and what is promised of them.
 use Rattle.std.specs.Prelude.{◌≡◌, ℕ, zero, suc, ◌<◌, ◌≤◌, List, [], ◌∷◌, map, length, ℤ, None, Option, Result, ◌≢◌, slice_index_or}
-use Rattle.std.specs.List.{AllByRecursion as All}
+use Rattle.std.specs.List.{AllByRecursion}
 use Rattle.calculus.specs.Account.{Account, declared, settled, add_answer, added, mark_answer, marked, return_answer, returned}
 use Rattle.calculus.specs.Advice.{Advice, Advises}
 use Rattle.calculus.specs.Checking.{check_end}
@@ -142,5 +142,5 @@ pub record DayKept (rs : List Range) (es : List Event) (b : Account) : Type 0 wh
 
 -- the whole day
 abbrev pub DayRight : Type 0
-DayRight = (rs : List Range) (es : List Event) (b : Account) → FitRanges rs → Leads (settled rs) es b → All (λ e. Fair e.call) es →
+DayRight = (rs : List Range) (es : List Event) (b : Account) → FitRanges rs → Leads (settled rs) es b → AllByRecursion (λ e. Fair e.call) es →
     DayKept rs es b

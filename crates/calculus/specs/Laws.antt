@@ -1,7 +1,7 @@
 -- Laws of the definitions, in the subject's words. Functions of src/laws.rt name them, so that each is proved.
 use Rattle.std.specs.Prelude.{◌≡◌, ℕ, ◌-◌, ◌<◌, ◌≤◌, Bool, true, ◌&&◌, List, [], ◌∷◌, ◌++◌, map, length, get_or, take, replicate, ℤ, pos, ◌+ℤ◌, ◌*ℤ◌, ◌≤ℤ◌, ◌<ℤ◌, Err, nat_le, slice_index_or, unsigned_abs}
 use Rattle.std.specs.Int.{◌∣◌}
-use Rattle.std.specs.List.{range_with_len, ContainsAt as Has, AllByRecursion as All}
+use Rattle.std.specs.List.{range_with_len, ContainsAt as Has, AllByRecursion}
 use Rattle.calculus.specs.Account.{Account, Test, answered, declare_tests, add_tests, with_mark, returned}
 use Rattle.calculus.specs.Arithmetic.{floor, ceiling, divisor, common}
 use Rattle.calculus.specs.Refusals.{nothing, moves, line, held, offset, listed, all_refusals}
@@ -30,11 +30,11 @@ Greatest = (d a b : ℕ) → d ∣ a → d ∣ b → d ∣ divisor a b
 
 -- the common divisor of a list divides each of its numbers
 abbrev pub CommonDivides : Type 0
-CommonDivides = (cs : List ℤ) → All (λ c. common cs ∣ unsigned_abs c) cs
+CommonDivides = (cs : List ℤ) → AllByRecursion (λ c. common cs ∣ unsigned_abs c) cs
 
 -- whatever divides each number of a list divides their common divisor
 abbrev pub CommonGreatest : Type 0
-CommonGreatest = (d : ℕ) (cs : List ℤ) → All (λ c. d ∣ unsigned_abs c) cs → d ∣ common cs
+CommonGreatest = (d : ℕ) (cs : List ℤ) → AllByRecursion (λ c. d ∣ unsigned_abs c) cs → d ∣ common cs
 
 -- the coefficients of a row are those of its reduced form, times the row's divisor
 abbrev pub ReducedDivides : Type 0
@@ -46,7 +46,7 @@ ReducedSame = (xs : List ℤ) (r : Row) → (Meets xs r → Meets xs (reduced r)
 
 -- a row without a coefficient is its own reduced form
 abbrev pub ReducedPlain : Type 0
-ReducedPlain = (r : Row) → All (λ c. c ≡ pos 0) r.coefs → reduced r ≡ r
+ReducedPlain = (r : Row) → AllByRecursion (λ c. c ≡ pos 0) r.coefs → reduced r ≡ r
 
 -- a row is a double of another just where their reduced forms are equal
 abbrev pub DoubleDecides : Type 0
@@ -87,7 +87,7 @@ MeetsFirst = (xs : List ℤ) (k : ℕ) (rows : List Standing) → MeetsAll xs ro
 
 -- whoever meets the rows meets whichever rows are among them
 abbrev pub MeetsPart : Type 0
-MeetsPart = (xs : List ℤ) (rows part : List Standing) → All (λ s. Has rows s) part → MeetsAll xs rows → MeetsAll xs part
+MeetsPart = (xs : List ℤ) (rows part : List Standing) → AllByRecursion (λ s. Has rows s) part → MeetsAll xs rows → MeetsAll xs part
 
 -- the refusals are numbered from 1 on, in the order of the table, without a gap
 abbrev pub Numbered : Type 0
@@ -111,7 +111,7 @@ rising n (t ∷ ts) = nat_le n (listed t.refusal).number && rising (listed t.ref
 -- where several refusals apply, the answer has the smallest number; `given` is what the call gives where none does
 abbrev pub Smallest : {A : Type 0} → A → Type 0
 Smallest given = (ts : List Test) (r : Refusal) → rising 0 ts ≡ true → answered ts given ≡ Err r →
-    All (λ t. t.applies ≡ true → (listed r).number ≤ (listed t.refusal).number) ts
+    AllByRecursion (λ t. t.applies ≡ true → (listed r).number ≤ (listed t.refusal).number) ts
 
 -- so it is for calls that give nothing and for declaring, which gives a number
 abbrev pub SmallestFirst : Type 0

@@ -1,6 +1,6 @@
 -- Logs: lines, the five kinds, what it is to begin a log and to append to it.
 use Rattle.std.specs.Prelude.{◌≡◌, ℕ, suc, ◌≤◌, Bool, true, false, not, List, [], ◌∷◌, ◌++◌, length, take, ℤ, pos, Ok, Err, Result, ◌==◌, nat_le, slice_index_or}
-use Rattle.std.specs.List.{AllByRecursion as All}
+use Rattle.std.specs.List.{AllByRecursion}
 use Rattle.calculus.specs.Account.{Test, when, answered, left}
 use Rattle.calculus.specs.Limits.{most_lines}
 use Rattle.calculus.specs.Rows.{Row, coef}
@@ -91,4 +91,4 @@ written capacity k r ls = written_by (nat_le capacity (length ls)) (record { fie
 pub record KeepsBook (l : Logbook) : Type 0 where
   pub room : l.capacity ≤ most_lines
   pub few : length l.lines ≤ most_lines
-  pub shaped : All (λ q. length q.row.coefs ≡ l.unknowns) l.lines
+  pub shaped : AllByRecursion (λ q. length q.row.coefs ≡ l.unknowns) l.lines

@@ -1,6 +1,6 @@
 -- The promises on runs and checks, in the subject's words. Functions of src/promises.rt name them, so that each is proved.
 use Rattle.std.specs.Prelude.{◌≡◌, ℕ, ◌^◌, ◌<◌, ◌≤◌, true, false, List, [], ◌∷◌, length, take, ℤ, Some, None, Ok, Option}
-use Rattle.std.specs.List.{AllByRecursion as All}
+use Rattle.std.specs.List.{AllByRecursion}
 use Rattle.calculus.specs.Account.{bad_range, heavy}
 use Rattle.calculus.specs.Advice.{Advice, Advises, turned_side}
 use Rattle.calculus.specs.Arithmetic.{near}
@@ -24,14 +24,14 @@ use Rattle.calculus.specs.declared.trails.Entry.{Entry}
 -- Ranges as a draft takes them: few enough, low not above high, and ends within their limits.
 pub record FitRanges (rs : List Range) : Type 0 where
   pub few : length rs ≤ most_unknowns
-  pub good : All (λ r. bad_range r.low r.high ≡ false) rs
+  pub good : AllByRecursion (λ r. bad_range r.low r.high ≡ false) rs
 
 -- Rows as a ticket takes them: few enough, one coefficient for each unknown, and numbers within their limits.
 pub record FitRows (rs : List Range) (rows : List Standing) : Type 0 where
   pub few : length rows ≤ most_rows
-  pub shaped : All (λ s. length s.row.coefs ≡ length rs) rows
-  pub light : All (λ s. heavy s.row.coefs ≡ false) rows
-  pub small : All (λ s. near added_constant_limit s.row.constant ≡ true) rows
+  pub shaped : AllByRecursion (λ s. length s.row.coefs ≡ length rs) rows
+  pub light : AllByRecursion (λ s. heavy s.row.coefs ≡ false) rows
+  pub small : AllByRecursion (λ s. near added_constant_limit s.row.constant ≡ true) rows
 
 -- no assignment within the ranges meets every row
 abbrev pub Excluded : List Range → List Standing → Type 0
@@ -61,7 +61,7 @@ abbrev pub LinesRight : Type 0
 LinesRight = (rs : List Range) (rows : List Standing) (a : Advice) (log : Logbook) (plan : List ℤ) (budget : ℕ) →
     FitRanges rs → FitRows rs rows → log.capacity ≤ most_lines → begin_answer rs a log plan ≡ Ok tt →
     let end = run_end rs rows a log plan budget in
-    AllJustified rs rows end.log.lines × All (LineFits (length rs)) end.log.lines
+    AllJustified rs rows end.log.lines × AllByRecursion (LineFits (length rs)) end.log.lines
 
 -- in every machine of a run that repairs: a decision on top without which the conflict does not fail is one whose unknown the conflict
 -- bounds better there, on the other side than the entry's
@@ -90,7 +90,7 @@ NoneRight = (rs : List Range) (rows : List Standing) (a : Advice) (log : Logbook
     let end = run_end rs rows a log plan budget in
     end.ending ≡ NoPlan →
     AllJustified rs rows end.log.lines
-    × All (LineFits (length rs)) end.log.lines
+    × AllByRecursion (LineFits (length rs)) end.log.lines
     × (closes end.log.lines ≡ true)
     × (check_end rs rows end.log ≡ None)
     × Excluded rs rows

@@ -1,6 +1,6 @@
 -- Ranges, rows, what it means to meet them, reduced forms and doubles.
 use Rattle.std.specs.Prelude.{ℕ, max, Bool, true, false, ◌&&◌, ◌||◌, List, [], ◌∷◌, map, length, ℤ, pos, ◌+ℤ◌, ◌*ℤ◌, ◌≤ℤ◌, slice_index_or}
-use Rattle.std.specs.List.{AllByRecursion as All}
+use Rattle.std.specs.List.{AllByRecursion}
 use Rattle.calculus.specs.Arithmetic.{sum, floor, ceiling, common, same_number}
 use Rattle.calculus.specs.declared.ranges.Range.{Range}
 
@@ -28,7 +28,7 @@ Meets xs r = value xs r ≤ℤ pos 0
 
 -- an assignment meets every standing row
 abbrev pub MeetsAll : List ℤ → List Standing → Type 0
-MeetsAll xs rows = All (λ s. Meets xs s.row) rows
+MeetsAll xs rows = AllByRecursion (λ s. Meets xs s.row) rows
 
 -- an assignment has one value for each range, and each lies in its range, both ends included
 abbrev pub Within : List Range → List ℤ → Type 0

@@ -1,6 +1,6 @@
 -- What is true of whole runs and of advisers, in the subject's words. Functions of src/laws.rt name these laws, so that each is proved.
 use Rattle.std.specs.Prelude.{◌≡◌, ℕ, zero, suc, ◌+◌, ◌<◌, ◌≤◌, Bool, true, false, ◌&&◌, ◌||◌, ◌⊎◌, List, [], ◌∷◌, ◌++◌, length, take, ℤ, Some, None, Ok, ◌≢◌, nat_le}
-use Rattle.std.specs.List.{AllByRecursion as All}
+use Rattle.std.specs.List.{AllByRecursion}
 use Rattle.calculus.specs.Advice.{Order, Advice, Orderly, Advises, advised, choice, told, steady, blaming, turned}
 use Rattle.calculus.specs.Checking.{line_tests}
 use Rattle.calculus.specs.Laws.{rising}
@@ -180,7 +180,7 @@ ChoiceOpen = (o : Order) (lows highs : List ℤ) → Orderly o → length lows �
 -- what it chooses is the first of its order that is not fixed: every pair before it is
 abbrev pub ChoiceFirst : Type 0
 ChoiceFirst = (o : Order) (lows highs : List ℤ) (x : ℕ) (s : Side) → choice o lows highs ≡ Some (x, s) →
-    (front : Order) × ((rest : Order) × ((o ≡ front ++ (x, s) ∷ rest) × All (λ p. coef lows p.0 ≡ coef highs p.0) front))
+    (front : Order) × ((rest : Order) × ((o ≡ front ++ (x, s) ∷ rest) × AllByRecursion (λ p. coef lows p.0 ≡ coef highs p.0) front))
 
 -- steady and blaming advisers keep to what an adviser is, and so does a turned one over any that does
 abbrev pub ThreeAdvise : Type 0

@@ -4,7 +4,7 @@ use Rattle.std.proofs.Common.{⊎_elim, sym, ap, subst, ◌∙◌, div-mul-le_se
 use Rattle.std.proofs.Math.Seq.{paste}
 use Rattle.std.specs.Int.{w32}
 use Rattle.std.proofs.lemmas.Int.{ints}
-use Rattle.std.specs.List.{AllByRecursion as All}
+use Rattle.std.specs.List.{AllByRecursion}
 use Rattle.std.proofs.ByRecursion.{All-from_get_or}
 use Rattle.std.proofs.lemmas.List.{ext_get_or, get_or_append_left, get_or_at, get_or_past, get_or-take, length_push, length-take-le}
 use Rattle.std.proofs.lemmas.Bool.{cases_eq}
@@ -41,7 +41,7 @@ line_held n held cs q l = table_at (line_in n cs) held q no_line l
 pub line_past : (n held : ℕ) (cs : List ℤ) (q : ℕ) → held ≤ q → line_at (lines_in n held cs) q ≡ no_line
 line_past n held cs q l = let long = lines_long n held cs in get_or_past (lines_in n held cs) q no_line (omega arith)
 
-pub lines_shaped : (n held : ℕ) (cs : List ℤ) → All (λ l. length l.row.coefs ≡ n) (lines_in n held cs)
+pub lines_shaped : (n held : ℕ) (cs : List ℤ) → AllByRecursion (λ l. length l.row.coefs ≡ n) (lines_in n held cs)
 lines_shaped n held cs =
     let long = lines_long n held cs in
     let P : Line → Type 0 = λ l. length l.row.coefs ≡ n in

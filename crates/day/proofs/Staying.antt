@@ -1,6 +1,6 @@
 -- What changes nothing, what lines keep, and scripts that begin alike.
 use Rattle.std.proofs.Common.{◌≡◌, ℕ, suc, Bool, true, false, cond, eqb, ◌⊎◌, List, [], ◌∷◌, ◌++◌, Some, Ok, Err, Result, sym, refl, ap, ◌∙◌, inl, inr, append_assoc, arith, eqb-true}
-use Rattle.std.specs.List.{flat_map, AllByRecursion as All}
+use Rattle.std.specs.List.{flat_map, AllByRecursion}
 use Rattle.calculus.specs.Account.{left, declare_answer, add_answer, mark_answer, return_answer}
 use Rattle.calculus.specs.declared.refusals.Refusal.{Refusal}
 use Rattle.script.specs.Commands.{draft, unknown, settle, add, mark, return, rows, later}
@@ -65,9 +65,9 @@ misplaced_stays p rows w e = refl
 misplaced_stays p (later l) w e = refl
 
 abbrev NewlineFree : List ℕ → Type 0
-NewlineFree l = All (λ b. eqb b 10 ≡ false) l
+NewlineFree l = AllByRecursion (λ b. eqb b 10 ≡ false) l
 
-whole_by : (t : Bool) (b : ℕ) (ls : List (List ℕ)) → eqb b 10 ≡ t → All NewlineFree ls → All NewlineFree (cond t ([] ∷ ls) (before_first b ls))
+whole_by : (t : Bool) (b : ℕ) (ls : List (List ℕ)) → eqb b 10 ≡ t → AllByRecursion NewlineFree ls → AllByRecursion NewlineFree (cond t ([] ∷ ls) (before_first b ls))
 whole_by true b ls e h = (tt, h)
 whole_by false b [] e h = ((e, tt), tt)
 whole_by false b (l ∷ ls) e h = ((e, h.0), h.1)

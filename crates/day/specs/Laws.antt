@@ -1,6 +1,6 @@
 -- Laws of a day script, in the subject's words. A function of src/laws.rt names them, so that each is proved.
 use Rattle.std.specs.Prelude.{◌≡◌, ℕ, false, ◌⊎◌, List, ◌++◌, Some, Ok, Err, ◌==◌}
-use Rattle.std.specs.List.{flat_map, AllByRecursion as All}
+use Rattle.std.specs.List.{flat_map, AllByRecursion}
 use Rattle.calculus.specs.declared.refusals.Refusal.{Refusal}
 use Rattle.script.specs.Commands.{Said}
 use Rattle.script.specs.declared.answers.Answer.TheVariants.{Refused}
@@ -18,7 +18,7 @@ MisplacedStays = (p : State) (s : Said) (e : Expected) → due p s ≡ Err e →
 
 -- no line has a newline in it
 abbrev pub LinesWhole : Type 0
-LinesWhole = (script : List ℕ) → All (λ l. All (λ b. (b == 10) ≡ false) l) (lines script)
+LinesWhole = (script : List ℕ) → AllByRecursion (λ l. AllByRecursion (λ b. (b == 10) ≡ false) l) (lines script)
 
 -- the lines, each with its newline, are the script; a last newline that was missing is put there
 abbrev pub LinesKeep : Type 0

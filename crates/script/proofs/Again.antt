@@ -1,7 +1,7 @@
 -- A printed row is parsed as the row that was printed.
 use Rattle.std.proofs.Common.{◌≡◌, ℕ, suc, ◌+◌, ◌%◌, ◌^◌, ◌<◌, ◌≤◌, true, false, List, [], ◌∷◌, ◌++◌, map, length, ℤ, pos, negsuc, Some, Ok, decimal, sym, refl, ap, ◌∙◌, append_assoc, append-nil, mod-lt, arith, length-append, le-leb}
 use lib.Signed.{mag}
-use Rattle.std.specs.List.{flat_map, AllByRecursion as All}
+use Rattle.std.specs.List.{flat_map, AllByRecursion}
 use Rattle.std.specs.Int.{saturate_to_bits}
 use Rattle.std.specs.Option.{option_map}
 use Rattle.std.specs.Fmt.{signed_decimal}
@@ -56,7 +56,7 @@ text_front : (cs : List ℤ) (k : ℤ) → (front (text cs k) ≡ []) × (words_
 text_front [] k = (refl, refl)
 text_front (c ∷ cs) k = (refl, refl)
 
-words_text : (cs : List ℤ) (k : ℤ) → All (λ c. mag c < 2 ^ 31) cs → mag k < 2 ^ 63 → words (text cs k) ≡ map signed_decimal cs ++ signed_decimal k ∷ []
+words_text : (cs : List ℤ) (k : ℤ) → AllByRecursion (λ c. mag c < 2 ^ 31) cs → mag k < 2 ^ 63 → words (text cs k) ≡ map signed_decimal cs ++ signed_decimal k ∷ []
 words_text [] k h l =
     let s = clear_signed k l in
     ap words (sym (append-nil (signed_decimal k))) ∙ word_then (signed_decimal k) [] s.1 s.0 refl
@@ -72,7 +72,7 @@ row_step : (l : ℕ) (cs : List ℤ) (c : ℤ) (w : List ℕ) (ws : List (List �
 row_step l cs c w [] h e = absurd (omega arith)
 row_step l cs c w (v ∷ ws) h e = simp e
 
-row_back : (l : ℕ) (before cs : List ℤ) (k : ℤ) → All (λ c. mag c < 2 ^ 31) cs → mag k < 2 ^ 63 →
+row_back : (l : ℕ) (before cs : List ℤ) (k : ℤ) → AllByRecursion (λ c. mag c < 2 ^ 31) cs → mag k < 2 ^ 63 →
     parsed_row l before (map signed_decimal cs ++ signed_decimal k ∷ []) ≡ Ok (add l (before ++ cs) k)
 row_back l before [] k h b =
     let e : nearest_i64 (signed_decimal k) ≡ Some k = ap (option_map (saturate_to_bits 63)) (reads_back k b) ∙ ap Some (held 63 k b) in

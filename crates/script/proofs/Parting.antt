@@ -1,16 +1,16 @@
 -- The words of a line: whole, and all that is there.
 use Rattle.std.proofs.Common.{◌≡◌, ℕ, ◌<◌, Bool, true, false, List, [], ◌∷◌, ◌++◌, length, refl, ap, arith}
-use Rattle.std.specs.List.{flat_map, AllByRecursion as All}
+use Rattle.std.specs.List.{flat_map, AllByRecursion}
 use Rattle.script.specs.Laws.{WordsWhole, WordsKeep, unblanked}
 use Rattle.script.specs.Words.{blank, front, words_past}
 
 -- without a blank
 abbrev pub Clear : List ℕ → Type 0
-Clear w = All (λ b. blank b ≡ false) w
+Clear w = AllByRecursion (λ b. blank b ≡ false) w
 
 -- words that are whole
 abbrev Whole : List (List ℕ) → Type 0
-Whole ws = All (λ w. (0 < length w) × Clear w) ws
+Whole ws = AllByRecursion (λ w. (0 < length w) × Clear w) ws
 
 front_by : (t : Bool) (b : ℕ) (bs : List ℕ) → blank b ≡ t → Clear (front bs) → Clear (front (b ∷ bs))
 front_by true b bs e on = simp e tt

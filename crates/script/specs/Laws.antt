@@ -1,7 +1,7 @@
 -- Laws of reading and wording, and worked examples. A function of src/laws.rt names them, so that each is proved.
 use Rattle.std.specs.Prelude.{◌≡◌, ℕ, ◌-◌, ◌^◌, ◌<◌, ◌≤◌, false, cond, List, [], ◌∷◌, ◌++◌, length, ℤ, pos, negsuc, Some, None, Ok, Err, codes}
 use Rattle.std.specs.Int.Signed.{mag}
-use Rattle.std.specs.List.{flat_map, AllByRecursion as All}
+use Rattle.std.specs.List.{flat_map, AllByRecursion}
 use Rattle.std.specs.Int.{saturate_to_bits}
 use Rattle.std.specs.Fmt.{signed_decimal}
 use Rattle.calculus.specs.Arithmetic.{near}
@@ -14,7 +14,7 @@ use Rattle.keywords.specs.declared.Later.TheVariants.{Check}
 
 -- no word is empty, and none has a blank in it
 abbrev pub WordsWhole : Type 0
-WordsWhole = (line : List ℕ) → All (λ w. (0 < length w) × All (λ b. blank b ≡ false) w) (words line)
+WordsWhole = (line : List ℕ) → AllByRecursion (λ w. (0 < length w) × AllByRecursion (λ b. blank b ≡ false) w) (words line)
 
 -- the bytes that are no blanks
 abbrev pub unblanked : List ℕ → List ℕ
@@ -35,7 +35,7 @@ StaysOutside = (h limit : ℕ) (z : ℤ) → limit < 2 ^ h - 1 → near limit (s
 
 -- a printed row, with `add ` in front, adds that row
 abbrev pub RowReadsBack : Type 0
-RowReadsBack = (label : ℕ) (cs : List ℤ) (constant : ℤ) → label ≤ 255 → All (λ c. mag c < 2 ^ 31) cs → mag constant < 2 ^ 63 →
+RowReadsBack = (label : ℕ) (cs : List ℤ) (constant : ℤ) → label ≤ 255 → AllByRecursion (λ c. mag c < 2 ^ 31) cs → mag constant < 2 ^ 63 →
     parsed (codes "add " ++ row_worded label cs constant) ≡ Ok (Some (add label cs constant))
 
 -- what is no number and what is, numbers past their type, and the first thing that is expected on a wrong line

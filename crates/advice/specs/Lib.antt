@@ -3,4 +3,4 @@ pub mod Names
 pub mod Blamed
 pub mod Chosen
 pub mod Telling
-pub mod AnyAdviserAdviserLemmas
+pub mod ChosenKept

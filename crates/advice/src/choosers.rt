@@ -1,6 +1,6 @@
 // Any of the advisers that the program uses.
 ghost use Rattle.advice.specs.Chosen.{any_of};
-ghost use Rattle.advice.specs.AnyAdviserAdviserLemmas.{any_advises};
+ghost use Rattle.advice.specs.ChosenKept.{any_advises};
 
 use super::advisers::Adviser;
 use super::blamers::Blaming;

@@ -38,3 +38,4 @@ pub mod Advising
 pub mod Appending
 pub mod ComingOut
 pub mod WorkedOut
+pub mod Cases

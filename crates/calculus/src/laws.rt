@@ -114,7 +114,7 @@ pub fn worked_cases_stand()
     ensures ends_included { EndsIncluded }
 {}
 
-// The worked runs, checks and texts, a row met to the end, and the refusals listed, all computed from the definitions.
+// The worked runs, checks and texts, the worked cases on rows and ranges, and the refusals listed, all computed from the definitions.
 pub fn worked_runs_stand()
     ensures no_unknowns { NoUnknowns }
     ensures one_decision { OneDecision }
@@ -135,6 +135,10 @@ pub fn worked_runs_stand()
     ensures reduced_by_two { ReducedByTwo }
     ensures checks { Checks }
     ensures breaks { Breaks }
+    ensures reduces { Reduces }
+    ensures doubles { Doubles }
+    ensures rounds { Rounds }
+    ensures ends_included { EndsIncluded }
     ensures met_to_the_end { MetToTheEnd }
     ensures refusals_listed { RefusalsListed }
 {}

@@ -3,3 +3,4 @@ pub mod Books
 pub mod Quotas
 pub mod Held
 pub mod Pastes
+pub mod Kept

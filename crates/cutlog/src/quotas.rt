@@ -1,7 +1,7 @@
 // A limit over any log.
 ghost use Rattle.std.specs.Prelude.{◌≡◌, min};
 ghost use Rattle.cutlog.specs.Quotas.{limited};
-ghost use Rattle.std.proofs.Common.{rules};
+ghost use Rattle.cutlog.specs.Kept.{limited_keeps};
 
 use crate::logs::Log;
 use crate::shapes::is_shaped;
@@ -42,7 +42,7 @@ impl<L: Log> Quota<L> {
 impl<L: Log> Log for Quota<L> {
     ghost book = { λ q. limited q.limit (L.Log.book q.inner) };
 
-    ghost kept = { Prim.search rules };
+    ghost kept = { λ q. limited_keeps q.limit (L.Log.book q.inner) (L.Log.kept q.inner) };
 
     fn unknowns(&self) -> usize {
         self.inner.unknowns()

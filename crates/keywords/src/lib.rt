@@ -1,5 +1,5 @@
-// The words that a command of the day script begins with. They are a crate of their own because a crate that holds the
-// name of a tactic, as the first of the words below is, is checked twice.
+// The words that a command of the day script begins with. They are a crate of their own because one of them, the first
+// below, is also the name of a tactic, and no other crate's text should hold it.
 #![tactic(auto)]
 
 ghost use Rattle.keywords.specs.Keywords.{named, named_later, later_word};

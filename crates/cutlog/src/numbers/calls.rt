@@ -2,8 +2,7 @@
 ghost use Rattle.std.specs.Prelude.{◌≡◌};
 ghost use Rattle.calculus.specs.Logs.{append_answer, appended, begun};
 ghost use Rattle.cutlog.specs.Books.{book_of, memory_after, memory_of, past};
-ghost use Rattle.std.proofs.Common.{arith};
-ghost use Rattle.cutlog.specs.Held.{lines_long, lines_shaped};
+ghost use Rattle.cutlog.specs.Kept.{numbers_keep};
 
 use super::Numbers;
 use super::cells::{HEAD, fields_at, i32_at};
@@ -27,9 +26,7 @@ fn no_fields() -> Fields
 impl Log for Numbers {
     ghost book = { book_of };
 
-    ghost kept = { λ l.
-        let long = lines_long l.unknowns l.held (memory_of l) in
-        record { room = omega arith; few = omega (arith, l.within); shaped = lines_shaped l.unknowns l.held (memory_of l) } };
+    ghost kept = { numbers_keep };
 
     fn unknowns(&self) -> usize {
         self.width()

@@ -1,6 +1,6 @@
 use Rattle.std.proofs.Common.{refl}
-use lib.Signed.{le_z_yes}
 use Rattle.calculus.proofs.Answering.{each_listed}
+use Rattle.calculus.proofs.Cases.{reduces_out, doubles_out, rounds_out, ends_out, met_out}
 use Rattle.calculus.proofs.WorkedOut.{no_unknowns_out, decision_out, propagation_out, none_out, without_room_out, frames_out}
 use Rattle.calculus.proofs.WorkedOut.{backjumps_out, too_wide_out, aside_out, partner_out, checks_out, breaks_out}
 use Rattle.calculus.proofs.WorkedOut.{row_again_out, row_without_room_out, open_part_out, no_partner_out, none_later_out}
@@ -28,6 +28,10 @@ returns c = record {
   reduced_by_two = by_two_out;
   checks = checks_out;
   breaks = breaks_out;
-  met_to_the_end = (le_z_yes tt, λ h. h.le);
+  reduces = reduces_out;
+  doubles = doubles_out;
+  rounds = rounds_out;
+  ends_included = ends_out;
+  met_to_the_end = met_out;
   refusals_listed = (refl, refl, each_listed);
 }

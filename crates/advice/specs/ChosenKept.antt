@@ -1,3 +1,4 @@
+-- Any of the advisers that the program uses keeps what an adviser is: what its impl gives for the law.
 use Rattle.calculus.specs.Advice.{Advises}
 use Rattle.calculus.proofs.Advising.{three_advise}
 use Rattle.advice.specs.Blamed.{blaming_of}

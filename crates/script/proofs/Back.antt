@@ -6,10 +6,10 @@ use Rattle.std.specs.Option.{option_map}
 use Rattle.std.proofs.lemmas.Fmt.{decimal_by_steps, decimal_digit, decimal_nonempty, first_decimal}
 use Rattle.std.proofs.lemmas.Bool.Decides.{nat_tests}
 use Rattle.script.specs.Laws.{ReadsBack, StaysOutside}
-use Rattle.script.specs.Numbers.{is_digit, digits_after, magnitude, below_zero, numeral}
+use Rattle.script.specs.Numbers.{digit, digits_after, magnitude, below_zero, numeral}
 
 -- digits after digits
-digits_on_by : (t : Bool) (m k b : ℕ) (ds es : List ℕ) → is_digit b ≡ t →
+digits_on_by : (t : Bool) (m k b : ℕ) (ds es : List ℕ) → digit b ≡ t →
     (digits_after (10 * m + (b - 48)) ds ≡ Some k → digits_after (10 * m + (b - 48)) (ds ++ es) ≡ digits_after k es) →
     digits_after m (b ∷ ds) ≡ Some k → digits_after m (b ∷ ds ++ es) ≡ digits_after k es
 digits_on_by true m k b ds es e on h = simp e (on (simp e at h))
@@ -17,11 +17,11 @@ digits_on_by false m k b ds es e on h = let z : ◌≡◌ {A = Option ℕ} None 
 
 digits_on : (m k : ℕ) (ds es : List ℕ) → digits_after m ds ≡ Some k → digits_after m (ds ++ es) ≡ digits_after k es
 digits_on m k [] es h = let e : m ≡ k = grind arith in ap (λ (n : ℕ). digits_after n es) e
-digits_on m k (b ∷ ds) es h = digits_on_by (is_digit b) m k b ds es refl (digits_on (10 * m + (b - 48)) k ds es) h
+digits_on m k (b ∷ ds) es h = digits_on_by (digit b) m k b ds es refl (digits_on (10 * m + (b - 48)) k ds es) h
 
 one_digit : (m d : ℕ) → d < 10 → digits_after m ((48 + d) ∷ []) ≡ Some (m * 10 + d)
 one_digit m d h =
-    let t : is_digit (48 + d) ≡ true = grind (arith, nat_tests) in
+    let t : digit (48 + d) ≡ true = grind (arith, nat_tests) in
     let e : 10 * m + (48 + d - 48) ≡ m * 10 + d = omega arith in
     simp t (ap Some e)
 

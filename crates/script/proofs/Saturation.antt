@@ -3,7 +3,7 @@ use Rattle.std.proofs.Common.{◌≡◌, ℕ, zero, suc, ◌+◌, ◌-◌, ◌*�
 use Rattle.std.proofs.lemmas.List.{drop_more, drop_all, take_all}
 use Rattle.std.specs.Int.{saturate_to_bits}
 use Rattle.std.specs.Option.{option_map}
-use Rattle.script.specs.Numbers.{is_digit, digits_after, magnitude, below_zero, nearest_i64}
+use Rattle.script.specs.Numbers.{digit, digits_after, magnitude, below_zero, nearest_i64}
 
 abbrev pub cut : ℕ → ℕ
 cut n = min n (2 ^ 64 - 1)
@@ -13,15 +13,15 @@ pub cut_after : (m n : ℕ) (bs : List ℕ) → cut m ≡ cut n → option_map c
 cut_after m n [] e = ap Some e
 cut_after m n (b ∷ bs) e =
     let on = cut_after (10 * m + (b - 48)) (10 * n + (b - 48)) bs (omega arith) in
-    elim (is_digit b) as (λ (t : Bool). option_map cut (cond t (digits_after (10 * m + (b - 48)) bs) None) ≡ option_map cut (cond t (digits_after (10 * n + (b - 48)) bs) None))
+    elim (digit b) as (λ (t : Bool). option_map cut (cond t (digits_after (10 * m + (b - 48)) bs) None) ≡ option_map cut (cond t (digits_after (10 * n + (b - 48)) bs) None))
     [ true ↦ on | false ↦ refl ]
 
 -- a byte that is no digit
-pub cut_none : (n : ℕ) (text : List ℕ) (i : ℕ) → i < length text → is_digit (get_or text i 0) ≡ false → None ≡ option_map cut (digits_after n (drop i text))
+pub cut_none : (n : ℕ) (text : List ℕ) (i : ℕ) → i < length text → digit (get_or text i 0) ≡ false → None ≡ option_map cut (digits_after n (drop i text))
 cut_none n text i h e = let d = drop_more text i 0 h in simp (d, e)
 
 -- one digit more
-pub cut_more : (n r : ℕ) (text : List ℕ) (i : ℕ) → i < length text → is_digit (get_or text i 0) ≡ true → r ≡ cut (cut (n * 10) + (get_or text i 0 - 48)) →
+pub cut_more : (n r : ℕ) (text : List ℕ) (i : ℕ) → i < length text → digit (get_or text i 0) ≡ true → r ≡ cut (cut (n * 10) + (get_or text i 0 - 48)) →
     option_map cut (digits_after r (drop (i + 1) text)) ≡ option_map cut (digits_after n (drop i text))
 cut_more n r text i h e is =
     let d = drop_more text i 0 h in

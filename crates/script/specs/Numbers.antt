@@ -4,13 +4,13 @@ use Rattle.std.specs.Int.{saturate_to_bits}
 use Rattle.std.specs.Option.{option_map}
 
 -- a byte from `0` (48) to `9` (57)
-abbrev pub is_digit : ℕ → Bool
-is_digit b = nat_le 48 b && nat_le b 57
+abbrev pub digit : ℕ → Bool
+digit b = nat_le 48 b && nat_le b 57
 
 -- the number that decimal digits write after those that wrote n; none where a byte is no digit
 abbrev pub digits_after : ℕ → List ℕ → Option ℕ
 digits_after n [] = Some n
-digits_after n (b ∷ bs) = cond (is_digit b) (digits_after (10 * n + (b - 48)) bs) None
+digits_after n (b ∷ bs) = cond (digit b) (digits_after (10 * n + (b - 48)) bs) None
 
 -- the number that a word of digits writes: at least one digit, and the first of several is not `0` (48)
 abbrev pub magnitude : List ℕ → Option ℕ

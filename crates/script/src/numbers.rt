@@ -1,5 +1,5 @@
 // Reading the numbers of a command. A number too large for its type is taken as the nearest one that the type holds.
-ghost use Rattle.script.specs.Numbers.{is_digit, digits_after, magnitude, below_zero, nearest_i64, nearest_i32, label_of};
+ghost use Rattle.script.specs.Numbers.{digit, digits_after, magnitude, below_zero, nearest_i64, nearest_i32, label_of};
 ghost use Rattle.std.specs.Option.{option_map};
 ghost use Rattle.std.specs.Prelude.{◌≡◌, ◌-◌, ◌^◌, min, pos, Some};
 ghost use Rattle.std.specs.Int.{saturate_to_bits};
@@ -8,7 +8,7 @@ ghost use Rattle.std.specs.Int.{saturate_to_bits};
 const MOST: u64 = 9_223_372_036_854_775_807;
 
 fn is_digit(b: u8) -> bool
-    ensures { result ≡ is_digit b }
+    ensures { result ≡ digit b }
 {
     b'0' <= b && b <= b'9'
 }

@@ -1,5 +1,5 @@
-// The words that a command of the day script begins with. They are a crate of their own because one of them, the first
-// below, is also the name of a tactic, and no other crate's text should hold it.
+// The words that a command of the day script begins with. One of them, the first below, is also the name of a tactic: in a
+// crate of their own the words stand beside no other definition.
 #![tactic(auto)]
 
 ghost use Rattle.keywords.specs.Keywords.{named, named_later, later_word};

@@ -1,5 +1,6 @@
 -- Repair keeps a conflict failing and covered; where a decision cannot be dropped the conflict bounds its unknown better.
 -- Rests on Resolving, Covering and Reasons.
+use Rattle.std.specs.Prelude.{None}
 use Rattle.std.proofs.Common.{◌≡◌, ℕ, zero, suc, ◌<◌, ◌≤◌, Bool, true, false, ◌&&◌, List, [], ◌∷◌, length, ℤ, pos, negsuc, ◌+ℤ◌, ◌*ℤ◌, neg_ℤ, nat_abs, ◌≤ℤ◌, ◌<ℤ◌, Some, sym, refl, ap, ◌∙◌, subst, ⊎_elim, arith}
 use Prim.Native.Nat.{◌∣◌}
 use native.Mathlib.Nat.{mod-eq-zero_of_dvd}
@@ -20,7 +21,6 @@ use Rattle.calculus.specs.declared.ranges.Range.{Range}
 use Rattle.calculus.specs.declared.sides.Side.{Side}
 use Rattle.calculus.specs.declared.sides.Side.TheVariants.{Low, High}
 use Rattle.calculus.specs.declared.trails.Bound.{Bound}
-use Rattle.calculus.specs.declared.trails.Cause.TheVariants.{Decided}
 use Rattle.calculus.specs.declared.trails.Entry.{Entry}
 use Rattle.calculus.proofs.BetterBounds.{coef_without, least_split}
 use Rattle.calculus.proofs.Covering.{Covered, Complete, Bare, covered_past, covered_sum, complete_covers, covered_cut, bare_plus, bare_cut}
@@ -168,7 +168,7 @@ rest_away rs e t j =
     plain High z e = ap (matches High) e
 
 bounds_by : (b : Bool) (rs : List Range) (e : Entry) (t : Trail) (j : Row) → matches e.side (coef j.coefs e.unknown) ≡ b →
-    Conflict rs (e ∷ t) j → Sits rs t e → e.cause ≡ Decided → under rs t j ≤ℤ pos 0 →
+    Conflict rs (e ∷ t) j → Sits rs t e → e.cause ≡ None → under rs t j ≤ℤ pos 0 →
     (b : Bound) × (better_under rs t j e.unknown ≡ Some b)
 bounds_by false rs e t j m c sits why l =
     let past = conflict_past rs e t j c m in
@@ -187,7 +187,7 @@ bounds_by true rs e t j m c sits why l =
     bounded_some a (under rs t (without x j)) (low rs t x) (high rs t x) (omega (arith, ints)) (omega (arith, ints))
 
 -- a decision that may not be dropped: the conflict bounds its unknown better
-pub conflict_bounds : (rs : List Range) (e : Entry) (t : Trail) (j : Row) → Conflict rs (e ∷ t) j → Sits rs t e → e.cause ≡ Decided →
+pub conflict_bounds : (rs : List Range) (e : Entry) (t : Trail) (j : Row) → Conflict rs (e ∷ t) j → Sits rs t e → e.cause ≡ None →
     fails_under rs t j ≡ false → (b : Bound) × (better_under rs t j e.unknown ≡ Some b)
 conflict_bounds rs e t j c sits why f = bounds_by _ rs e t j refl c sits why (not_above (under rs t j) f)
   where

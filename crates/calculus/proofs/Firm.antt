@@ -1,6 +1,7 @@
 -- The trail's own invariant, for any lines: each entry lies within the ends below it, and a decided one fixes its unknown at the far end.
 -- From it: low is never above high, and ends only move inwards as the trail grows. Every step keeps it; it rests on the three moves and
 -- on what a step without a move leaves of the trail.
+use Rattle.std.specs.Prelude.{None}
 use Rattle.std.proofs.Common.{◌≡◌, ℕ, zero, suc, ◌+◌, ◌<◌, ◌≤◌, Bool, true, false, eqb, ◌⊎◌, List, [], ◌∷◌, length, ℤ, pos, ◌≤ℤ◌, ◌<ℤ◌, Some, sym, refl, ap, ◌∙◌, subst, inl, inr, ⊎_elim, arith}
 use borrow.Author.Differences.{ints}
 use lib.Signed.{lt_z}
@@ -21,7 +22,6 @@ use Rattle.calculus.specs.declared.ranges.Range.{Range}
 use Rattle.calculus.specs.declared.sides.Side.{Side}
 use Rattle.calculus.specs.declared.sides.Side.TheVariants.{Low, High}
 use Rattle.calculus.specs.declared.trails.Bound.{Bound}
-use Rattle.calculus.specs.declared.trails.Cause.TheVariants.{Decided, Implied}
 use Rattle.calculus.specs.declared.trails.Entry.{Entry}
 use Rattle.calculus.proofs.Advising.{open_some}
 use Rattle.calculus.proofs.BetterBounds.{Nearer, better_is_last}
@@ -46,8 +46,8 @@ pub record Sits (rs : List Range) (t : Trail) (e : Entry) : Type 0 where
   pub above : low rs t e.unknown ≤ℤ e.bound
   pub below : e.bound ≤ℤ high rs t e.unknown
   -- a decided entry is on an unknown that was not fixed, and fixes it at the end of the other side
-  pub unfixed : e.cause ≡ Decided → low rs t e.unknown <ℤ high rs t e.unknown
-  pub fixes : e.cause ≡ Decided → e.bound ≡ end_at rs t (turned_side e.side) e.unknown
+  pub unfixed : e.cause ≡ None → low rs t e.unknown <ℤ high rs t e.unknown
+  pub fixes : e.cause ≡ None → e.bound ≡ end_at rs t (turned_side e.side) e.unknown
 
 -- every entry of a trail sits well
 abbrev pub Firm : List Range → Trail → Type 0
@@ -208,10 +208,10 @@ plain_end rs t e h s x k = by (on s x e) refl
 
 -- the two range entries of k
 abbrev pub low_entry : List Range → ℕ → Entry
-low_entry rs k = record { unknown = k; side = Low; bound = (range_at rs k).low; cause = Implied (k + k) }
+low_entry rs k = record { unknown = k; side = Low; bound = (range_at rs k).low; cause = Some (k + k) }
 
 abbrev pub high_entry : List Range → ℕ → Entry
-high_entry rs k = record { unknown = k; side = High; bound = (range_at rs k).high; cause = Implied (suc (k + k)) }
+high_entry rs k = record { unknown = k; side = High; bound = (range_at rs k).high; cause = Some (suc (k + k)) }
 
 -- the range entries change no end
 pub range_ends : (rs : List Range) (k : ℕ) (s : Side) (x : ℕ) → end_at rs (range_entries rs k) s x ≡ end_at rs [] s x
@@ -222,7 +222,7 @@ range_ends rs (suc k) s x =
 
 -- the entry of a bound on x, its reason the line q
 abbrev pub implied : ℕ → Bound → ℕ → Entry
-implied x b q = record { unknown = x; side = b.side; bound = b.value; cause = Implied q }
+implied x b q = record { unknown = x; side = b.side; bound = b.value; cause = Some q }
 
 -- it sits where the bound lies between the ends
 implied_sits : (rs : List Range) (t : Trail) (x : ℕ) (b : Bound) (q : ℕ) → x < length rs →

@@ -25,8 +25,6 @@ use Rattle.calculus.specs.declared.ranges.Range.{Range}
 use Rattle.calculus.specs.declared.sides.Side.{Side}
 use Rattle.calculus.specs.declared.sides.Side.TheVariants.{Low, High}
 use Rattle.calculus.specs.declared.trails.Bound.{Bound}
-use Rattle.calculus.specs.declared.trails.Cause.{Cause}
-use Rattle.calculus.specs.declared.trails.Cause.TheVariants.{Decided, Implied}
 use Rattle.calculus.specs.declared.trails.Entry.{Entry}
 use Rattle.calculus.proofs.Conflicts.{Conflict, conflict_past, conflict_resolved, conflict_dropped, common_multiple, conflict_cut}
 use Rattle.calculus.proofs.Conflicts.{conflict_bounds}
@@ -91,7 +89,7 @@ module _ (c : Context) (o : InOrder c.ranges) (thin : (p : ℕ) → Bare (length
       sound = h.1;
       base = grown_on back.base h.2;
     },
-    λ s y l. has_more s y (record { unknown = x; side = b.side; bound = b.value; cause = Implied q }) t (complete s y l),
+    λ s y l. has_more s y (record { unknown = x; side = b.side; bound = b.value; cause = Some q }) t (complete s y l),
   )
   pushed_well (Err f, ls) m a t x b back complete known r found h = h
 
@@ -238,7 +236,7 @@ module _ (c : Context) (o : InOrder c.ranges) (thin : (p : ℕ) → Bare (length
       record { backing = below e t m.lines h.backing; conflict = conf; held = h.held; is = h.is; stands = h.stands }
 
   resolved_by_well : (b : Bool) (m : Machine) (e : Entry) (t : Trail) (j : Row) (line : ℕ) (place : Option ℕ) (q : ℕ) →
-      Repairs c (e ∷ t) m.lines j line place → Backed (Implied q) rs m.lines t e →
+      Repairs c (e ∷ t) m.lines j line place → Backed (Some q) rs m.lines t e →
       matches e.side (coef j.coefs e.unknown) ≡ true →
       let k = nat_abs (coef j.coefs e.unknown) in
       WellAt c (after (resolved_by b c m t (plus j k (line_row m.lines q)) line q k))
@@ -253,7 +251,7 @@ module _ (c : Context) (o : InOrder c.ranges) (thin : (p : ℕ) → Bare (length
 
   implied_off_well : (b : Bool) (m : Machine) (e : Entry) (t : Trail) (j : Row) (line : ℕ) (place : Option ℕ) (q : ℕ) →
       matches e.side (coef j.coefs e.unknown) ≡ b → Repairs c (e ∷ t) m.lines j line place →
-      Backed (Implied q) rs m.lines t e →
+      Backed (Some q) rs m.lines t e →
       WellAt c (after (implied_off b c m t j line place q (nat_abs (coef j.coefs e.unknown))))
   implied_off_well true m e t j line place q match h back = resolved_by_well _ m e t j line place q h back match
   implied_off_well false m e t j line place q match h back =
@@ -271,17 +269,17 @@ module _ (c : Context) (o : InOrder c.ranges) (thin : (p : ℕ) → Bare (length
       h.backing.firm.0.known h.conflict.bare found h.held h.is
 
   decided_off_well : (b : Bool) (m : Machine) (e : Entry) (t : Trail) (j : Row) (line : ℕ) (place : Option ℕ) →
-      fails_under rs t j ≡ b → Repairs c (e ∷ t) m.lines j line place → e.cause ≡ Decided → Complete rs t →
+      fails_under rs t j ≡ b → Repairs c (e ∷ t) m.lines j line place → e.cause ≡ None → Complete rs t →
       WellAt c (after (decided_off b c m t j line place e.unknown))
   decided_off_well true m e t j line place f h why complete =
       lowered m e t j line place h (conflict_dropped rs t j f complete h.conflict.bare)
   decided_off_well false m e t j line place f h why complete =
       jump_well _ m e t j line place refl h complete (conflict_bounds rs e t j h.conflict h.backing.firm.0 why f)
 
-  off_well : (why : Cause) (m : Machine) (e : Entry) (t : Trail) (j : Row) (line : ℕ) (place : Option ℕ) → e.cause ≡ why →
+  off_well : (why : Option ℕ) (m : Machine) (e : Entry) (t : Trail) (j : Row) (line : ℕ) (place : Option ℕ) → e.cause ≡ why →
       Repairs c (e ∷ t) m.lines j line place → Backed why rs m.lines t e → WellAt c (after (off why c m e t j line place))
-  off_well (Implied q) m e t j line place h r back = implied_off_well _ m e t j line place q refl r back
-  off_well Decided m e t j line place h r back = decided_off_well _ m e t j line place refl r h back.0
+  off_well (Some q) m e t j line place h r back = implied_off_well _ m e t j line place q refl r back
+  off_well None m e t j line place h r back = decided_off_well _ m e t j line place refl r h back.0
 
   -- ---- the end
 

@@ -21,8 +21,6 @@ use Rattle.calculus.specs.declared.kinds.Kind.TheVariants.{Row as Placed, Sum, C
 use Rattle.calculus.specs.declared.sides.Side.{Side}
 use Rattle.calculus.specs.declared.sides.Side.TheVariants.{Low, High}
 use Rattle.calculus.specs.declared.trails.Bound.{Bound}
-use Rattle.calculus.specs.declared.trails.Cause.{Cause}
-use Rattle.calculus.specs.declared.trails.Cause.TheVariants.{Decided, Implied}
 use Rattle.calculus.specs.declared.trails.Entry.{Entry}
 use Rattle.calculus.proofs.BetterBounds.{here_same, here_other}
 use Rattle.calculus.proofs.Leasts.{coef_plus}
@@ -102,7 +100,7 @@ record Pushed (c : Context) (m : Machine) (a : Advice) (t : Trail) (row : Row) (
   pub reason : ℕ
   pub room : length t < most_entries
   pub tight : tightened c.capacity t row line x m.lines ≡ (Ok reason, m'.lines)
-  pub pushes : m'.trail ≡ record { unknown = x; side = b.side; bound = b.value; cause = Implied reason } ∷ t
+  pub pushes : m'.trail ≡ record { unknown = x; side = b.side; bound = b.value; cause = Some reason } ∷ t
   pub advice : m'.advice ≡ a
   pub on : m'.phase ≡ looking
 
@@ -205,7 +203,7 @@ module _ (c : Context) (m m' : Machine) where
 
   module _ (j : Row) (line : ℕ) (place : Option ℕ) (repairs : m.phase ≡ repairing j line place) where
     module _ (top : Entry) (t : Trail) (tops : m.trail ≡ top ∷ t) where
-      module _ (decision : top.cause ≡ Decided) where
+      module _ (decision : top.cause ≡ None) where
         of_jump : fails_under c.ranges t j ≡ false → (o : Option Bound) → better_under c.ranges t j top.unknown ≡ o →
             jump o c m t j line place top.unknown ≡ moved m' → Backjumps c m m'
         of_jump passes (Some b) h e =
@@ -236,11 +234,11 @@ module _ (c : Context) (m m' : Machine) where
         of_decided true h e = absurd (free_no_move e)
         of_decided false h e = of_jump h (better_under c.ranges t j top.unknown) refl e
 
-      of_off : (k : Cause) → top.cause ≡ k → off k c m top t j line place ≡ moved m' → Backjumps c m m'
-      of_off (Implied q) h e =
+      of_off : (k : Option ℕ) → top.cause ≡ k → off k c m top t j line place ≡ moved m' → Backjumps c m m'
+      of_off (Some q) h e =
           let k = coef j.coefs top.unknown in
           absurd (no_implied (matches top.side k) t j line place q (nat_abs k) e)
-      of_off Decided h e = of_decided h (fails_under c.ranges t j) refl e
+      of_off None h e = of_decided h (fails_under c.ranges t j) refl e
 
     of_repair : (t : Trail) → m.trail ≡ t → repair t c m j line place ≡ moved m' → Backjumps c m m'
     of_repair [] h e = absurd (no_close place j line e)
@@ -298,7 +296,7 @@ backjumps_move : (c : Context) (m m' : Machine) → Backjumps c m m' → act c m
 backjumps_move c m m' p =
     ap (λ (q : Phase). act_in q c m) p.repairs
     ∙ ap (λ (t : Trail). repair t c m p.conflict p.line p.place) p.tops
-    ∙ ap (λ (k : Cause). off k c m p.top p.below p.conflict p.line p.place) p.decision
+    ∙ ap (λ (k : Option ℕ). off k c m p.top p.below p.conflict p.line p.place) p.decision
     ∙ ap (λ (f : Bool). decided_off f c m p.below p.conflict p.line p.place p.top.unknown) p.passes
     ∙ ap (λ (o : Option Bound). jump o c m p.below p.conflict p.line p.place p.top.unknown) p.found
     ∙ due_moves c m m' (told m.advice p.top.unknown) p.below p.conflict p.line p.top.unknown p.bound

@@ -1,4 +1,5 @@
 -- Tightening reads the whole trail and keeps its invariant and the log's. Rests on Descending and GoodLogs.
+use Rattle.std.specs.Prelude.{None, Option, Some}
 use Rattle.std.proofs.Common.{◌≡◌, ℕ, zero, suc, ◌<◌, Bool, true, false, List, [], ◌∷◌, ◌++◌, length, ℤ, nat_abs, ◌≤ℤ◌, ◌<ℤ◌, Ok, Err, sym, refl, ◌∙◌, subst, arith}
 use mathlib.Core.Path.{transport}
 use borrow.Author.Differences.{ints}
@@ -14,8 +15,6 @@ use Rattle.calculus.specs.declared.kinds.Kind.TheVariants.{Sum}
 use Rattle.calculus.specs.declared.ranges.Range.{Range}
 use Rattle.calculus.specs.declared.sides.Side.{Side}
 use Rattle.calculus.specs.declared.sides.Side.TheVariants.{Low, High}
-use Rattle.calculus.specs.declared.trails.Cause.{Cause}
-use Rattle.calculus.specs.declared.trails.Cause.TheVariants.{Decided, Implied}
 use Rattle.calculus.specs.declared.trails.Entry.{Entry}
 use Rattle.calculus.proofs.Covering.{Bare, bare_plus}
 use Rattle.calculus.proofs.Descending.{SumOf, sum_of_plus, sum_of_none, Kept, kept_past, kept_resolved, kept_aside}
@@ -107,7 +106,7 @@ module _ (rs : List Range) (rows : List Row) (whole : Trail) (x d : ℕ) (r : Ro
     order = firm_order rs t o below.1
 
     -- an implied entry
-    of_implied : (q : ℕ) → Backed (Implied q) rs ms t e → matches e.side c ≡ true →
+    of_implied : (q : ℕ) → Backed (Some q) rs ms t e → matches e.side c ≡ true →
         (w : Narrowing) → Sums rs rows ms (nat_abs c) q row part w → Narrows rs rows whole x d r ls t w
     of_implied q b m (going row' part' line' ns) s = record {
       kept = kept_resolved rs whole x d r e t row part n.kept order below.0.known (nat_abs c) (line_row ms q) row' part' s.rows_add
@@ -120,20 +119,20 @@ module _ (rs : List Range) (rows : List Row) (whole : Trail) (x d : ℕ) (r : Ro
     of_implied q b m (stopped f ns) s = s
 
     -- the unknown of a decided entry is fixed under the whole trail
-    fixed : e.cause ≡ Decided → (s : Side) → end_at rs whole s e.unknown ≡ e.bound
+    fixed : e.cause ≡ None → (s : Side) → end_at rs whole s e.unknown ≡ e.bound
     fixed why s =
         subst (λ (m : Trail). end_at rs m s e.unknown ≡ e.bound) (sym joins)
         (fixed_on rs front (e ∷ t) e.unknown e.bound o (subst (Firm rs) joins firm) (decided_fixed rs t e below.0 why) s)
 
     -- so it is another one than x
-    apart : e.cause ≡ Decided → e.unknown ≡ x → ⊥
+    apart : e.cause ≡ None → e.unknown ≡ x → ⊥
     apart why h =
         let lo : low rs whole x ≡ e.bound = subst (λ (y : ℕ). low rs whole y ≡ e.bound) h (fixed why Low) in
         let hi : high rs whole x ≡ e.bound = subst (λ (y : ℕ). high rs whole y ≡ e.bound) h (fixed why High) in
         absurd (omega (arith, ints))
 
     -- a decided entry
-    of_decided : e.cause ≡ Decided → Backed Decided rs ms t e → matches e.side c ≡ true →
+    of_decided : e.cause ≡ None → Backed None rs ms t e → matches e.side c ≡ true →
         (w : Narrowing) → Sums rs rows ms (lacking d c) (reason_of (turned_side e.side) e.unknown t) row part w →
         Narrows rs rows whole x d r ls t (aside e.unknown w)
     of_decided why b m (going row' part' line' ns) s = record {
@@ -146,12 +145,12 @@ module _ (rs : List Range) (rows : List Row) (whole : Trail) (x d : ℕ) (r : Ro
     }
     of_decided why b m (stopped f ns) s = s
 
-    of_matched : (why : Cause) (capacity : ℕ) → e.cause ≡ why → Backed why rs ms t e → matches e.side c ≡ true →
+    of_matched : (why : Option ℕ) (capacity : ℕ) → e.cause ≡ why → Backed why rs ms t e → matches e.side c ≡ true →
         Narrows rs rows whole x d r ls t (matched why capacity d e t c row part line ms)
-    of_matched (Implied q) capacity h b m =
+    of_matched (Some q) capacity h b m =
         of_implied q b m _ (summed_sums rs rows ms n.sound row part line n.held n.is n.kept.bare capacity (nat_abs c) q
         b.held)
-    of_matched Decided capacity h b m =
+    of_matched None capacity h b m =
         of_decided h b m _ (summed_sums rs rows ms n.sound row part line n.held n.is n.kept.bare capacity (lacking d c) _
         b.1.held)
 

@@ -1,6 +1,7 @@
 -- A number that falls with each move, whatever the lines say: the potential, made of the width of a trail and its decisions.
 -- It rests on the firm trail alone. Take the widths at the ends of the segments between decisions as digits in base W + 2, the first the
 -- most significant, and W + 1 for each of the n + 1 segments that is not open: the potential is that number and one more.
+use Rattle.std.specs.Prelude.{None, Option, Some}
 use Rattle.std.proofs.Common.{◌≡◌, ℕ, zero, suc, ◌+◌, ◌-◌, ◌*◌, ◌^◌, ◌<◌, ◌≤◌, List, [], ◌∷◌, length, ℤ, ◌-ℤ◌, nat_abs, ◌≤ℤ◌, ◌<ℤ◌, sym, refl, ap, ◌∙◌, subst, ⊎_elim, mul-le-mul_right, suc-mul, mul_comm, mul-lt-mul_of_pos_right, pow-suc, arith}
 use native.Mathlib.Nat.{one-le-pow}
 use borrow.Author.Differences.{ints}
@@ -13,8 +14,6 @@ use Rattle.calculus.specs.declared.ranges.Range.{Range}
 use Rattle.calculus.specs.declared.sides.Side.{Side}
 use Rattle.calculus.specs.declared.sides.Side.TheVariants.{Low, High}
 use Rattle.calculus.specs.declared.trails.Bound.{Bound}
-use Rattle.calculus.specs.declared.trails.Cause.{Cause}
-use Rattle.calculus.specs.declared.trails.Cause.TheVariants.{Decided, Implied}
 use Rattle.calculus.specs.declared.trails.Entry.{Entry}
 use Rattle.calculus.proofs.Running.{range_entries_long}
 use Rattle.calculus.proofs.Firm.{InOrder, Sits, Firm, end_own, end_across, low_rises, high_falls, sits_order, firm_order, firm_inward}
@@ -110,9 +109,9 @@ module _ (rs : List Range) (t : Trail) (e : Entry) (o : InOrder rs) (f : Firm rs
 -- ---- decisions
 
 -- one more where the entry is decided
-abbrev pub counted : Cause → ℕ → ℕ
-counted Decided k = suc k
-counted (Implied q) k = k
+abbrev pub counted : Option ℕ → ℕ → ℕ
+counted None k = suc k
+counted (Some q) k = k
 
 -- how many entries of a trail are decided
 abbrev pub decisions : Trail → ℕ
@@ -150,7 +149,7 @@ module _ (rs : List Range) (t : Trail) (e : Entry) (o : InOrder rs) (f : Firm rs
       total_le (length rs) (λ x. one_if_any (room rs (e ∷ t) x)) (λ x. one_if_any (room rs t x))
       (λ x. any_le (room rs (e ∷ t) x) (room rs t x) (room_falls rs t e o f h x))
 
-  unfixed_falls : e.cause ≡ Decided → unfixed_many rs (e ∷ t) < unfixed_many rs t
+  unfixed_falls : e.cause ≡ None → unfixed_many rs (e ∷ t) < unfixed_many rs t
   unfixed_falls k =
       let x = e.unknown in
       let none : room rs (e ∷ t) x ≡ 0 =
@@ -162,10 +161,10 @@ module _ (rs : List Range) (t : Trail) (e : Entry) (o : InOrder rs) (f : Firm rs
       total_less (length rs) x (λ x. one_if_any (room rs (e ∷ t) x)) (λ x. one_if_any (room rs t x)) h.known
       (λ x. any_le (room rs (e ∷ t) x) (room rs t x) (room_falls rs t e o f h x)) (omega arith)
 
-  few_by : (k : Cause) → e.cause ≡ k → decisions t + unfixed_many rs t ≤ length rs →
+  few_by : (k : Option ℕ) → e.cause ≡ k → decisions t + unfixed_many rs t ≤ length rs →
       counted k (decisions t) + unfixed_many rs (e ∷ t) ≤ length rs
-  few_by Decided k l = let a = unfixed_falls k in omega arith
-  few_by (Implied q) k l = let a = unfixed_stays in omega arith
+  few_by None k l = let a = unfixed_falls k in omega arith
+  few_by (Some q) k l = let a = unfixed_stays in omega arith
 
 -- decisions and unfixed unknowns are together no more than the unknowns
 pub few_decisions : (rs : List Range) (t : Trail) → InOrder rs → Firm rs t → decisions t + unfixed_many rs t ≤ length rs
@@ -206,9 +205,9 @@ digit_below b w k h =
     omega arith
 
 -- something more where the entry is decided
-abbrev past_by : Cause → ℕ → ℕ → ℕ
-past_by Decided opened below = opened + below
-past_by (Implied q) opened below = below
+abbrev past_by : Option ℕ → ℕ → ℕ → ℕ
+past_by None opened below = opened + below
+past_by (Some q) opened below = below
 
 -- what the decisions of a trail still count for: the width below each of them
 abbrev pub past : List Range → Trail → ℕ
@@ -225,9 +224,9 @@ past_below rs t =
     let b = suc-mul (wide rs t) (stake rs t) in
     omega arith
 
-past_stays_by : (k : Cause) (opened below : ℕ) → below ≤ past_by k opened below
-past_stays_by Decided opened below = omega arith
-past_stays_by (Implied q) opened below = omega arith
+past_stays_by : (k : Option ℕ) (opened below : ℕ) → below ≤ past_by k opened below
+past_stays_by None opened below = omega arith
+past_stays_by (Some q) opened below = omega arith
 
 -- taking an entry off never adds to it
 pub past_stays : (rs : List Range) (e : Entry) (t : Trail) → past rs t ≤ past rs (e ∷ t)
@@ -249,10 +248,10 @@ module _ (rs : List Range) (t : Trail) (o : InOrder rs) (f : Firm rs t) where
         let c = suc-mul (wide rs t) (stake rs t) in
         omega arith
 
-    pub jump_falls : (top : Entry) → top.cause ≡ Decided → potential rs (implied x b q ∷ t) ≤ past rs (top ∷ t)
+    pub jump_falls : (top : Entry) → top.cause ≡ None → potential rs (implied x b q ∷ t) ≤ past rs (top ∷ t)
     jump_falls top k =
         let a = bound_falls in
-        let opened = ap (λ (k : Cause). past_by k (wide rs t * stake rs t) (past rs t)) k in
+        let opened = ap (λ (k : Option ℕ). past_by k (wide rs t * stake rs t) (past rs t)) k in
         omega arith
 
   pub decide_falls : (x : ℕ) (s : Side) → x < length rs → low rs t x <ℤ high rs t x → potential rs (decided rs t x s ∷ t) < potential rs t

@@ -1,5 +1,6 @@
 -- The log's half of the invariant: each implied entry has a tight line for its reason, each decided one a partner that has.
 -- It lasts as the log grows. Rests on Firm, Resolving and Covering.
+use Rattle.std.specs.Prelude.{None, Option, Some}
 use Rattle.std.proofs.Common.{◌≡◌, ℕ, ◌<◌, ◌≤◌, Bool, true, false, ◌||◌, List, [], ◌∷◌, ◌++◌, length, ℤ, ◌≤ℤ◌, ◌<ℤ◌, sym, refl, ap, ◌∙◌, subst, arith}
 use mathlib.Core.Path.{transport}
 use borrow.Author.Differences.{ints}
@@ -13,8 +14,6 @@ use Rattle.calculus.specs.Tightening.{reason, reason_of}
 use Rattle.calculus.specs.declared.ranges.Range.{Range}
 use Rattle.calculus.specs.declared.sides.Side.{Side}
 use Rattle.calculus.specs.declared.sides.Side.TheVariants.{Low, High}
-use Rattle.calculus.specs.declared.trails.Cause.{Cause}
-use Rattle.calculus.specs.declared.trails.Cause.TheVariants.{Decided, Implied}
 use Rattle.calculus.specs.declared.trails.Entry.{Entry}
 use Rattle.calculus.proofs.Covering.{has, CoveredBut, Complete, has_more}
 use Rattle.calculus.proofs.Firm.{InOrder, end_at, Sits, Firm, end_here, end_away, end_own, end_across, on_is, low_rises, high_falls}
@@ -29,9 +28,9 @@ pub record Reason (rs : List Range) (ls : List Line) (t : Trail) (q x : ℕ) (s 
   pub covered : CoveredBut x t (line_row ls q)
 
 -- an implied entry has its reason; a decided one a complete trail below it, and a reason for its partner
-abbrev pub Backed : Cause → List Range → List Line → Trail → Entry → Type 0
-Backed (Implied q) rs ls t e = Reason rs ls t q e.unknown e.side e.bound
-Backed Decided rs ls t e =
+abbrev pub Backed : Option ℕ → List Range → List Line → Trail → Entry → Type 0
+Backed (Some q) rs ls t e = Reason rs ls t q e.unknown e.side e.bound
+Backed None rs ls t e =
     Complete rs t
     × Reason rs ls t (reason_of (turned_side e.side) e.unknown t) e.unknown (turned_side e.side) e.bound
 
@@ -65,10 +64,10 @@ reason_grown {ls = ls} {ms = ms} g rs t q x s v r =
       covered = subst (λ (k : Row). CoveredBut x t k) e r.covered;
     }
 
-backed_grown : {ls ms : List Line} → Grown ls ms → (why : Cause) (rs : List Range) (t : Trail) (e : Entry) →
+backed_grown : {ls ms : List Line} → Grown ls ms → (why : Option ℕ) (rs : List Range) (t : Trail) (e : Entry) →
     Backed why rs ls t e → Backed why rs ms t e
-backed_grown g (Implied q) rs t e b = reason_grown g rs t q e.unknown e.side e.bound b
-backed_grown g Decided rs t e b = (b.0, reason_grown g rs t _ e.unknown (turned_side e.side) e.bound b.1)
+backed_grown g (Some q) rs t e b = reason_grown g rs t q e.unknown e.side e.bound b
+backed_grown g None rs t e b = (b.0, reason_grown g rs t _ e.unknown (turned_side e.side) e.bound b.1)
 
 pub held_grown : {ls ms : List Line} → Grown ls ms → (rs : List Range) (t : Trail) → Held rs ls t → Held rs ms t
 held_grown g rs [] h = tt
@@ -89,7 +88,7 @@ reason_up rs ls t e q x s v sits r =
     }
 
 -- ends of an unknown that is fixed
-pub decided_fixed : (rs : List Range) (t : Trail) (e : Entry) → Sits rs t e → e.cause ≡ Decided → (s : Side) →
+pub decided_fixed : (rs : List Range) (t : Trail) (e : Entry) → Sits rs t e → e.cause ≡ None → (s : Side) →
     end_at rs (e ∷ t) s e.unknown ≡ e.bound
 decided_fixed rs t e sits d s = by e.side refl s
   where
@@ -106,12 +105,12 @@ decided_fixed rs t e sits d s = by e.side refl s
     by High h High = subst (λ (z : Side). end_at rs (e ∷ t) z e.unknown ≡ e.bound) h own
 
 -- the newest entry on x of side s, where x is not fixed, is implied, and its reason still holds over the whole trail
-partner_by : (b : Bool) (why : Cause) (rs : List Range) (ls : List Line) (e : Entry) (t : Trail) (s : Side) (x : ℕ) →
+partner_by : (b : Bool) (why : Option ℕ) (rs : List Range) (ls : List Line) (e : Entry) (t : Trail) (s : Side) (x : ℕ) →
     on s x e ≡ b → e.cause ≡ why → Sits rs t e → Backed why rs ls t e →
     low rs (e ∷ t) x <ℤ high rs (e ∷ t) x → (b || has s x t) ≡ true →
     (low rs t x <ℤ high rs t x → has s x t ≡ true → Reason rs ls t (reason_of s x t) x s (end_at rs t s x)) →
     Reason rs ls (e ∷ t) (here_or b (reason e.cause) (reason_of s x t)) x s (end_at rs (e ∷ t) s x)
-partner_by true (Implied q) rs ls e t s x h why sits backed wide there later =
+partner_by true (Some q) rs ls e t s x h why sits backed wide there later =
     let p = on_is s x e h in
     let up = reason_up rs ls t e q e.unknown e.side e.bound sits backed in
     let v : e.bound ≡ end_at rs (e ∷ t) s x = sym (end_here rs t e s x h) in
@@ -122,7 +121,7 @@ partner_by true (Implied q) rs ls e t s x h why sits backed wide there later =
         v ≡ v' →
         Reason rs ls t q x s v → Reason rs ls t q' x' s' v'
     transported rs ls t a b c d r = transport (λ i. Reason rs ls t (a i) (b i) (c i) (d i)) r
-partner_by true Decided rs ls e t s x h why sits backed wide there later =
+partner_by true None rs ls e t s x h why sits backed wide there later =
     let p = on_is s x e h in
     let lo : low rs (e ∷ t) x ≡ e.bound = subst (λ (y : ℕ). low rs (e ∷ t) y ≡ e.bound) (sym p.1)
     (decided_fixed rs t e sits why Low) in

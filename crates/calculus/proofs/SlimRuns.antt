@@ -33,8 +33,6 @@ use Rattle.calculus.specs.declared.kinds.Kind.TheVariants.{Low as LowLine, High 
 use Rattle.calculus.specs.declared.ranges.Range.{Range}
 use Rattle.calculus.specs.declared.sides.Side.{Side}
 use Rattle.calculus.specs.declared.trails.Bound.{Bound}
-use Rattle.calculus.specs.declared.trails.Cause.{Cause}
-use Rattle.calculus.specs.declared.trails.Cause.TheVariants.{Decided, Implied}
 use Rattle.calculus.specs.declared.trails.Entry.{Entry}
 use Rattle.calculus.proofs.Divisors.{common_divides, row_divisor_plain}
 use Rattle.calculus.proofs.Firsts.{first_conflict, first_pair}
@@ -207,11 +205,11 @@ aside_slim : (n y : ℕ) (w : Narrowing) → Narrow n w → Narrow n (aside y w)
 aside_slim n y (going row part line ls) h = (h.0, small_without n y part h.1, h.2)
 aside_slim n y (stopped r ls) h = h
 
-matched_slim : (n : ℕ) (why : Cause) (capacity d : ℕ) (e : Entry) (t : Trail) (c : ℤ) (row part : Row) (line : ℕ) (ls : List Line) →
+matched_slim : (n : ℕ) (why : Option ℕ) (capacity d : ℕ) (e : Entry) (t : Trail) (c : ℤ) (row part : Row) (line : ℕ) (ls : List Line) →
     Lean c → d ≤ multiplier_limit → Small n row → Small n part → AllByRecursion (Slim n) ls →
     Narrow n (matched why capacity d e t c row part line ls)
-matched_slim n (Implied q) capacity d e t c row part line ls l k s p h = summed_slim n capacity (nat_abs c) q row part line ls l s p h
-matched_slim n Decided capacity d e t c row part line ls l k s p h =
+matched_slim n (Some q) capacity d e t c row part line ls l k s p h = summed_slim n capacity (nat_abs c) q row part line ls l s p h
+matched_slim n None capacity d e t c row part line ls l k s p h =
     let few = lacking_less d c in
     let q = reason_of (turned_side e.side) e.unknown t in
     aside_slim n e.unknown (summed capacity (lacking d c) q row part line ls)
@@ -357,12 +355,12 @@ decided_off_slim : (n : ℕ) (b : Bool) (c : Context) (m : Machine) (t : Trail) 
 decided_off_slim n true c m t j line place x s h = dropped_slim n m t j line place s h
 decided_off_slim n false c m t j line place x s h = jump_slim n (better_under c.ranges t j x) c m t j line place x s h
 
-off_slim : (n : ℕ) (why : Cause) (c : Context) (m : Machine) (e : Entry) (t : Trail) (j : Row) (line : ℕ) (place : Option ℕ) →
+off_slim : (n : ℕ) (why : Option ℕ) (c : Context) (m : Machine) (e : Entry) (t : Trail) (j : Row) (line : ℕ) (place : Option ℕ) →
     Small n j → AllByRecursion (Slim n) m.lines → Stays n (off why c m e t j line place)
-off_slim n (Implied q) c m e t j line place s h =
+off_slim n (Some q) c m e t j line place s h =
     let k = coef j.coefs e.unknown in
     implied_off_slim n (matches e.side k) c m t j line place q (nat_abs k) (small_at n j e.unknown s) s h
-off_slim n Decided c m e t j line place s h = decided_off_slim n (fails_under c.ranges t j) c m t j line place e.unknown s h
+off_slim n None c m e t j line place s h = decided_off_slim n (fails_under c.ranges t j) c m t j line place e.unknown s h
 
 closed_slim : (n : ℕ) (w : Written) (m : Machine) → AllByRecursion (Slim n) w.1 → Stays n (closed w m)
 closed_slim n (Ok q, ls) m h = (h, tt)

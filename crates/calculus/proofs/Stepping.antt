@@ -23,8 +23,6 @@ use Rattle.calculus.specs.declared.refusals.Refusal.{Refusal}
 use Rattle.calculus.specs.declared.refusals.Refusal.TheVariants.{Long, Wide, Log}
 use Rattle.calculus.specs.declared.sides.Side.{Side}
 use Rattle.calculus.specs.declared.trails.Bound.{Bound}
-use Rattle.calculus.specs.declared.trails.Cause.{Cause}
-use Rattle.calculus.specs.declared.trails.Cause.TheVariants.{Decided, Implied}
 use Rattle.calculus.specs.declared.trails.Entry.{Entry}
 
 -- ---- lines grow
@@ -98,10 +96,10 @@ aside_ok : (capacity : ℕ) (ls : List Line) (y : ℕ) (w : Narrowing) → Narro
 aside_ok capacity ls y (going row part line more) h = h
 aside_ok capacity ls y (stopped r more) h = h
 
-matched_ok : (why : Cause) (capacity d : ℕ) (e : Entry) (t : Trail) (c : ℤ) (row part : Row) (line : ℕ) (ls : List Line) →
+matched_ok : (why : Option ℕ) (capacity d : ℕ) (e : Entry) (t : Trail) (c : ℤ) (row part : Row) (line : ℕ) (ls : List Line) →
     Narrows capacity ls (matched why capacity d e t c row part line ls)
-matched_ok (Implied q) capacity d e t c row part line ls = summed_ok capacity (nat_abs c) q row part line ls
-matched_ok Decided capacity d e t c row part line ls = aside_ok capacity ls e.unknown _ (summed_ok capacity _ _ row part line ls)
+matched_ok (Some q) capacity d e t c row part line ls = summed_ok capacity (nat_abs c) q row part line ls
+matched_ok None capacity d e t c row part line ls = aside_ok capacity ls e.unknown _ (summed_ok capacity _ _ row part line ls)
 
 narrowed_by_ok : (b : Bool) (capacity d : ℕ) (e : Entry) (t : Trail) (c : ℤ) (row part : Row) (line : ℕ) (ls : List Line) →
     Narrows capacity ls (narrowed_by b capacity d e t c row part line ls)
@@ -286,10 +284,10 @@ decided_off_ok : (b : Bool) (c : Context) (m : Machine) (t : Trail) (j : Row) (l
 decided_off_ok true c m t j line place x busy len less = dropped_ok c m t j line place len less
 decided_off_ok false c m t j line place x busy len less = jump_ok _ c m t j line place x busy len less
 
-off_ok : (why : Cause) (c : Context) (m : Machine) (e : Entry) (t : Trail) (j : Row) (line : ℕ) (place : Option ℕ) → Busy m →
+off_ok : (why : Option ℕ) (c : Context) (m : Machine) (e : Entry) (t : Trail) (j : Row) (line : ℕ) (place : Option ℕ) → Busy m →
     length t ≤ length m.trail → length t + 1 < togo_of m → Fine c m (off why c m e t j line place)
-off_ok (Implied q) c m e t j line place busy len less = implied_off_ok _ c m t j line place q _ len less
-off_ok Decided c m e t j line place busy len less = decided_off_ok _ c m t j line place e.unknown busy len less
+off_ok (Some q) c m e t j line place busy len less = implied_off_ok _ c m t j line place q _ len less
+off_ok None c m e t j line place busy len less = decided_off_ok _ c m t j line place e.unknown busy len less
 
 closed_ok : (w : Written) (c : Context) (m : Machine) → Writes c.capacity m.lines w → 0 < togo_of m → Fine c m (closed w m)
 closed_ok (Ok q, ls) c m h less = (taken c m m.trail ls _ h.0 (omega arith) (inr (inl refl)), λ _. less)

@@ -21,8 +21,6 @@ use Rattle.calculus.specs.declared.refusals.Refusal.{Refusal}
 use Rattle.calculus.specs.declared.refusals.Refusal.TheVariants.{Long, Wide}
 use Rattle.calculus.specs.declared.sides.Side.{Side}
 use Rattle.calculus.specs.declared.trails.Bound.{Bound}
-use Rattle.calculus.specs.declared.trails.Cause.{Cause}
-use Rattle.calculus.specs.declared.trails.Cause.TheVariants.{Decided, Implied}
 use Rattle.calculus.specs.declared.trails.Entry.{Entry}
 
 -- a trail, or what is below its top
@@ -146,11 +144,11 @@ module _ (c : Context) (m : Machine) where
       decided_rest true j line place x = onwards t m.lines j line place l
       decided_rest false j line place x = jump_rest (better_under c.ranges t j x) j line place x
 
-      off_rest : (k : Cause) (e : Entry) (j : Row) (line : ℕ) (place : Option ℕ) → Rest c m (off k c m e t j line place)
-      off_rest (Implied q) e j line place =
+      off_rest : (k : Option ℕ) (e : Entry) (j : Row) (line : ℕ) (place : Option ℕ) → Rest c m (off k c m e t j line place)
+      off_rest (Some q) e j line place =
           let k = coef j.coefs e.unknown in
           implied_rest (matches e.side k) j line place q (nat_abs k)
-      off_rest Decided e j line place = decided_rest (fails_under c.ranges t j) j line place e.unknown
+      off_rest None e j line place = decided_rest (fails_under c.ranges t j) j line place e.unknown
 
     repair_rest : (t : Trail) → m.trail ≡ t → (j : Row) (line : ℕ) (place : Option ℕ) → Rest c m (repair t c m j line place)
     repair_rest [] h j line place = close_rest place j line

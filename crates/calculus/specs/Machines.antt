@@ -15,8 +15,6 @@ use Rattle.calculus.specs.declared.refusals.Refusal.TheVariants.{Long, Wide}
 use Rattle.calculus.specs.declared.sides.Side.{Side}
 use Rattle.calculus.specs.declared.sides.Side.TheVariants.{Low, High}
 use Rattle.calculus.specs.declared.trails.Bound.{Bound}
-use Rattle.calculus.specs.declared.trails.Cause.{Cause}
-use Rattle.calculus.specs.declared.trails.Cause.TheVariants.{Decided, Implied}
 use Rattle.calculus.specs.declared.trails.Entry.{Entry}
 
 -- What stays the same during a run: the ranges, the standing rows without their labels, and the log's capacity.
@@ -61,7 +59,7 @@ row_line c p = length c.ranges + length c.ranges + p
 abbrev pub pushed : Written → Machine → Advice → Trail → ℕ → Bound → Acted
 pushed (Ok q, ls) m a t x b =
     moved (record {
-      trail = record { unknown = x; side = b.side; bound = b.value; cause = Implied q } ∷ t;
+      trail = record { unknown = x; side = b.side; bound = b.value; cause = Some q } ∷ t;
       lines = ls;
       advice = a;
       phase = looking;
@@ -90,7 +88,7 @@ decided_value High lo hi = hi
 -- the decided entry: x <= low on side low, x >= high on side high
 abbrev pub decided : List Range → Trail → ℕ → Side → Entry
 decided rs t x s =
-    record { unknown = x; side = turned_side s; bound = decided_value s (low rs t x) (high rs t x); cause = Decided }
+    record { unknown = x; side = turned_side s; bound = decided_value s (low rs t x) (high rs t x); cause = None }
 
 -- a decision, unless the trail is full
 abbrev pub decide_by : Bool → Context → Machine → ℕ → Side → Acted
@@ -178,11 +176,11 @@ decided_off true c m t j line place x = dropped m t j line place
 decided_off false c m t j line place x = jump (better_under c.ranges t j x) c m t j line place x
 
 -- the top entry is taken off, over the trail t below it
-abbrev pub off : Cause → Context → Machine → Entry → Trail → Row → ℕ → Option ℕ → Acted
-off (Implied q) c m e t j line place =
+abbrev pub off : Option ℕ → Context → Machine → Entry → Trail → Row → ℕ → Option ℕ → Acted
+off (Some q) c m e t j line place =
     let k = coef j.coefs e.unknown in
     implied_off (matches e.side k) c m t j line place q (unsigned_abs k)
-off Decided c m e t j line place = decided_off (fails_under c.ranges t j) c m t j line place e.unknown
+off None c m e t j line place = decided_off (fails_under c.ranges t j) c m t j line place e.unknown
 
 -- the answer none, J being the last line
 abbrev pub closed : Written → Machine → Acted

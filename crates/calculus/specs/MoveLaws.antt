@@ -12,7 +12,6 @@ use Rattle.calculus.specs.declared.ranges.Range.{Range}
 use Rattle.calculus.specs.declared.sides.Side.{Side}
 use Rattle.calculus.specs.declared.sides.Side.TheVariants.{Low, High}
 use Rattle.calculus.specs.declared.trails.Bound.{Bound}
-use Rattle.calculus.specs.declared.trails.Cause.TheVariants.{Decided, Implied}
 use Rattle.calculus.specs.declared.trails.Entry.{Entry}
 
 -- ends by place, with v in the place of that of x
@@ -96,7 +95,7 @@ pub record Propagates (c : Context) (m m' : Machine) : Type 0 where
   pub found : propagating c.ranges c.rows m.trail ≡ Some (place, (unknown, bound))
   pub room : length m.trail < most_entries
   pub tight : tightened c.capacity m.trail (row_at c.rows place) (row_line c place) unknown m.lines ≡ (Ok reason, m'.lines)
-  pub pushes : m'.trail ≡ record { unknown = unknown; side = bound.side; bound = bound.value; cause = Implied reason } ∷ m.trail
+  pub pushes : m'.trail ≡ record { unknown = unknown; side = bound.side; bound = bound.value; cause = Some reason } ∷ m.trail
   pub advice : m'.advice ≡ m.advice
   pub on : m'.phase ≡ looking
 
@@ -126,12 +125,12 @@ pub record Backjumps (c : Context) (m m' : Machine) : Type 0 where
   pub reason : ℕ
   pub repairs : m.phase ≡ repairing conflict line place
   pub tops : m.trail ≡ top ∷ below
-  pub decision : top.cause ≡ Decided
+  pub decision : top.cause ≡ None
   pub passes : fails_under c.ranges below conflict ≡ false
   pub found : better_under c.ranges below conflict top.unknown ≡ Some bound
   pub room : length below < most_entries
   pub tight : tightened c.capacity below conflict line top.unknown m.lines ≡ (Ok reason, m'.lines)
-  pub pushes : m'.trail ≡ record { unknown = top.unknown; side = bound.side; bound = bound.value; cause = Implied reason } ∷ below
+  pub pushes : m'.trail ≡ record { unknown = top.unknown; side = bound.side; bound = bound.value; cause = Some reason } ∷ below
   pub advice : m'.advice ≡ told m.advice top.unknown
   pub on : m'.phase ≡ looking
 

@@ -18,7 +18,6 @@ use Rattle.calculus.specs.declared.kinds.Fields.{Fields}
 use Rattle.calculus.specs.declared.ranges.Range.{Range}
 use Rattle.calculus.specs.declared.refusals.Refusal.TheVariants.{Spent, Long, Wide, Log}
 use Rattle.calculus.specs.declared.trails.Bound.{Bound}
-use Rattle.calculus.specs.declared.trails.Cause.TheVariants.{Decided}
 use Rattle.calculus.specs.declared.trails.Entry.{Entry}
 
 -- Ranges as a draft takes them: few enough, low not above high, and ends within their limits.
@@ -70,7 +69,7 @@ JumpFound = (rs : List Range) (rows : List Standing) (a : Advice) (capacity budg
     let c : Context = record { ranges = rs; rows = rows_of rows; capacity = capacity } in
     let m = (run c budget steps (record { at = start c a; made = 0 })).at in
     (j : Row) (line : ℕ) (place : Option ℕ) (e : Entry) (t : Trail) → m.phase ≡ repairing j line place → m.trail ≡ e ∷ t →
-    e.cause ≡ Decided → fails_under rs t j ≡ false →
+    e.cause ≡ None → fails_under rs t j ≡ false →
     (b : Bound) × (better_under rs t j e.unknown ≡ Some b) × (b.side ≡ turned_side e.side)
 
 -- whoever lies within the ranges and meets every row meets every line of a log whose lines are justified

@@ -1,5 +1,5 @@
 -- Whole runs: the start, the run under a budget, and what it leaves.
-use Rattle.std.specs.Prelude.{ℕ, zero, suc, ◌+◌, ◌*◌, ◌^◌, Bool, true, false, not, ◌||◌, List, [], ◌∷◌, ◌++◌, map, length, take, replicate, ℤ, pos, negsuc, ◌-ℤ◌, neg_ℤ, Ok, Err, Result, ◌==◌, nat_le, slice_set, unsigned_abs}
+use Rattle.std.specs.Prelude.{ℕ, zero, suc, ◌+◌, ◌*◌, ◌^◌, Bool, true, false, not, ◌||◌, List, [], ◌∷◌, ◌++◌, map, length, take, replicate, ℤ, pos, negsuc, ◌-ℤ◌, neg_ℤ, Ok, Err, Result, ◌==◌, nat_le, slice_set, unsigned_abs, Some}
 use Rattle.calculus.specs.Account.{Test, when, answered}
 use Rattle.calculus.specs.Advice.{Advice, advised}
 use Rattle.calculus.specs.Bounds.{Trail, range_at, row_at, lows}
@@ -16,7 +16,6 @@ use Rattle.calculus.specs.declared.ranges.Range.{Range}
 use Rattle.calculus.specs.declared.refusals.Refusal.{Refusal}
 use Rattle.calculus.specs.declared.refusals.Refusal.TheVariants.{List as NoList, Misfit, Spent, Log}
 use Rattle.calculus.specs.declared.sides.Side.TheVariants.{Low, High}
-use Rattle.calculus.specs.declared.trails.Cause.TheVariants.{Implied}
 
 -- ---- the start
 
@@ -54,8 +53,8 @@ base_lines rs rows = range_lines rs (length rs) ++ row_lines rows (length rows)
 abbrev pub range_entries : List Range → ℕ → Trail
 range_entries rs zero = []
 range_entries rs (suc x) =
-    record { unknown = x; side = High; bound = (range_at rs x).high; cause = Implied (suc (x + x)) }
-    ∷ record { unknown = x; side = Low; bound = (range_at rs x).low; cause = Implied (x + x) }
+    record { unknown = x; side = High; bound = (range_at rs x).high; cause = Some (suc (x + x)) }
+    ∷ record { unknown = x; side = Low; bound = (range_at rs x).low; cause = Some (x + x) }
     ∷ range_entries rs x
 
 -- the machine after the base lines: they fit, or the run ends in log and as many of them stay as there is room for

@@ -1,5 +1,5 @@
 -- Sums and cuts of rows, matching, and the tightening of a row for one unknown.
-use Rattle.std.specs.Prelude.{ℕ, zero, suc, ◌-◌, ◌%◌, Bool, true, false, ◌&&◌, List, [], ◌∷◌, map, ℤ, pos, negsuc, ◌+ℤ◌, ◌*ℤ◌, Ok, Err, ◌==◌, nat_le, unsigned_abs}
+use Rattle.std.specs.Prelude.{ℕ, zero, suc, ◌-◌, ◌%◌, Bool, true, false, ◌&&◌, List, [], ◌∷◌, map, ℤ, pos, negsuc, ◌+ℤ◌, ◌*ℤ◌, Ok, Err, ◌==◌, nat_le, unsigned_abs, None, Option, Some}
 use Rattle.calculus.specs.Arithmetic.{near}
 use Rattle.calculus.specs.Advice.{turned_side}
 use Rattle.calculus.specs.Bounds.{Trail, on, here_or, without}
@@ -11,8 +11,6 @@ use Rattle.calculus.specs.declared.refusals.Refusal.{Refusal}
 use Rattle.calculus.specs.declared.refusals.Refusal.TheVariants.{Wide}
 use Rattle.calculus.specs.declared.sides.Side.{Side}
 use Rattle.calculus.specs.declared.sides.Side.TheVariants.{Low, High}
-use Rattle.calculus.specs.declared.trails.Cause.{Cause}
-use Rattle.calculus.specs.declared.trails.Cause.TheVariants.{Decided, Implied}
 use Rattle.calculus.specs.declared.trails.Entry.{Entry}
 
 -- two lists of coefficients added place by place, a missing one counting as 0
@@ -53,9 +51,9 @@ matches High (pos a) = false
 matches High (negsuc a) = true
 
 -- the line that implied an entry; 0 for a decided one
-abbrev pub reason : Cause → ℕ
-reason Decided = 0
-reason (Implied q) = q
+abbrev pub reason : Option ℕ → ℕ
+reason None = 0
+reason (Some q) = q
 
 -- the reason of the newest entry on x of side s; 0 where there is none (in a run on a ticket a partner is always there, and implied)
 abbrev pub reason_of : Side → ℕ → Trail → ℕ
@@ -96,9 +94,9 @@ aside y (stopped r ls) = stopped r ls
 
 -- a matching entry with open coefficient c, over the trail t below it. Implied: its reason is added |c| times. Decided: the reason of
 -- its partner, the newest entry below of the other side, is added the least number of times, and then the term is set aside.
-abbrev pub matched : Cause → ℕ → ℕ → Entry → Trail → ℤ → Row → Row → ℕ → List Line → Narrowing
-matched (Implied q) capacity d e t c row part line ls = summed capacity (unsigned_abs c) q row part line ls
-matched Decided capacity d e t c row part line ls =
+abbrev pub matched : Option ℕ → ℕ → ℕ → Entry → Trail → ℤ → Row → Row → ℕ → List Line → Narrowing
+matched (Some q) capacity d e t c row part line ls = summed capacity (unsigned_abs c) q row part line ls
+matched None capacity d e t c row part line ls =
     aside e.unknown (summed capacity (lacking d c) (reason_of (turned_side e.side) e.unknown t) row part line ls)
 
 -- an entry that does not match is passed by

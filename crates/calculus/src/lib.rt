@@ -24,4 +24,4 @@ pub use promises::{days_stand, promises_stand};
 pub use ranges::Range;
 pub use refusals::Refusal;
 pub use sides::Side;
-pub use trails::{Bound, Cause, Entry};
+pub use trails::{Bound, Entry};

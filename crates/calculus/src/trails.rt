@@ -1,20 +1,14 @@
 // Entries of the trail and bounds of rows.
 use super::sides::Side;
 
-// Where an entry comes from: a decision, or a line of the log, its reason.
-#[derive(Clone, Copy)]
-pub enum Cause {
-    Decided,
-    Implied(usize),
-}
-
-// An entry of the trail. On side low it says that the unknown is at least the bound, on side high at most.
+// An entry of the trail. On side low it says that the unknown is at least the bound, on side high at most. Its cause is the line of the
+// log that is its reason; a decision has none.
 #[derive(Clone, Copy)]
 pub struct Entry {
     pub unknown: usize,
     pub side: Side,
     pub bound: i32,
-    pub cause: Cause,
+    pub cause: Option<usize>,
 }
 
 // What a row says of one unknown: at least the value (low) or at most (high).

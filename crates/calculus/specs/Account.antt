@@ -4,6 +4,7 @@ use Rattle.calculus.specs.Arithmetic.{near}
 use Rattle.calculus.specs.Limits.{most_unknowns, most_rows, most_marks, end_limit, added_coefficient_limit, added_constant_limit}
 use Rattle.calculus.specs.Rows.{Standing, doubled}
 use Rattle.calculus.specs.declared.ranges.Range.{Range}
+use Rattle.calculus.specs.declared.rows.RowView.{RowView}
 use Rattle.calculus.specs.declared.refusals.Refusal.{Refusal}
 use Rattle.calculus.specs.declared.refusals.Refusal.TheVariants.{Shape, Range as BadRange, Weight, Label, Double, Full, Marks, Unmarked}
 
@@ -72,6 +73,10 @@ settled ranges = record { ranges = ranges; rows = []; marks = [] }
 -- a row under its label, as it is added
 abbrev pub standing : ℕ → List ℤ → ℤ → Standing
 standing label cs k = record { label = label; row = record { coefs = cs; constant = k } }
+
+-- a row that is lent, as a standing one
+abbrev pub seen : RowView → Standing
+seen v = standing v.label v.coefficients.now v.constant
 
 -- adding a row: the tests in the order of their numbers
 abbrev pub add_tests : Account → ℕ → List ℤ → ℤ → List Test

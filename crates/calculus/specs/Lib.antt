@@ -20,3 +20,4 @@ pub mod CheckLaws
 pub mod Days
 pub mod Worked
 pub mod WorkedRuns
+pub mod Wording

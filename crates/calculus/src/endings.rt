@@ -2,7 +2,7 @@
 use super::refusals::Refusal;
 
 // The answer of a run.
-#[derive(Clone, Copy)]
+#[derive(Clone, Copy, Debug, PartialEq, Eq)]
 pub enum Ending {
     Plan,
     NoPlan,
@@ -11,7 +11,7 @@ pub enum Ending {
 
 // Why a check does not accept: the log is for another number of unknowns; a line is wrong; or the log is open, with no line at all or a
 // last one that is no contradiction.
-#[derive(Clone, Copy)]
+#[derive(Clone, Copy, Debug, PartialEq, Eq)]
 pub enum Objection {
     Misfit,
     // 15 to 18, for the first wrong line.

@@ -1,10 +1,13 @@
 // The lines of a log, without their rows.
-ghost use Rattle.std.specs.Prelude.{◌≡◌, ◌&&◌, Some, ◌==◌};
+ghost use Rattle.std.specs.Prelude.{◌≡◌, Some, Ok, ok_or};
 ghost use Rattle.calculus.specs.Checking.{kind_of};
 ghost use Rattle.calculus.specs.Logs.{fields_of};
+ghost use Rattle.calculus.specs.declared.refusals.Refusal.TheVariants.{Kind as NoKind};
+
+use super::refusals::Refusal;
 
 // The five kinds of line, each with what it is made from.
-#[derive(Clone, Copy)]
+#[derive(Clone, Copy, Debug, PartialEq, Eq)]
 pub enum Kind {
     Low {
         unknown: u16,
@@ -27,8 +30,8 @@ pub enum Kind {
     },
 }
 
-// The fields of a line as a log holds them, whatever the kind's byte.
-#[derive(Clone, Copy)]
+// The fields of a line as a log holds them. The kind is any byte: a log from another hand may hold one that is no kind's.
+#[derive(Clone, Copy, Debug, Default, PartialEq, Eq)]
 pub struct Fields {
     pub kind: u8,
     pub i: u16,
@@ -48,87 +51,52 @@ const SUM: u8 = 4;
 
 const CUT: u8 = 5;
 
-impl Kind {
-    // The fields of a line of this kind; those that the kind does not use are 0.
-    pub fn fields(self) -> Fields
-        ensures value { result ≡ fields_of self }
-        ensures back { kind_of result ≡ Some self }
+// The fields of a line of a kind; those that the kind does not use are 0.
+impl From<Kind> for Fields {
+    ghost from_gives = { λ k f. f ≡ fields_of k };
+
+    fn from(kind: Kind) -> Fields
+        ensures value { result ≡ fields_of kind }
+        ensures back { kind_of result ≡ Some kind }
     {
-        match self {
-            Kind::Low { unknown } => Fields::only(LOW, unknown),
-            Kind::High { unknown } => Fields::only(HIGH, unknown),
-            Kind::Row { place } => Fields::only(ROW, place),
+        let (kind, i, j, k, m) = match kind {
+            Kind::Low { unknown } => (LOW, unknown, 0, 0, 0),
+            Kind::High { unknown } => (HIGH, unknown, 0, 0, 0),
+            Kind::Row { place } => (ROW, place, 0, 0, 0),
             Kind::Sum {
                 first,
                 second,
                 k,
                 m,
-            } => Fields {
-                kind: SUM,
-                i: first,
-                j: second,
-                k,
-                m,
-            },
-            Kind::Cut { line, k } => Fields {
-                kind: CUT,
-                i: line,
-                j: 0,
-                k,
-                m: 0,
-            },
-        }
+            } => (SUM, first, second, k, m),
+            Kind::Cut { line, k } => (CUT, line, 0, k, 0),
+        };
+        Fields { kind, i, j, k, m }
     }
 }
 
-impl Fields {
-    // A byte and i, and 0 elsewhere.
-    fn only(kind: u8, i: u16) -> Fields
-        ensures { result ≡ record { kind = kind; i = i; j = 0; k = 0; m = 0 } }
-    {
-        Fields {
-            kind,
-            i,
-            j: 0,
-            k: 0,
-            m: 0,
-        }
-    }
+// The kind that has these fields: none where the byte is that of no kind, or a field is not 0 that the kind does not use.
+impl TryFrom<Fields> for Kind {
+    type Error = Refusal;
 
-    // Whether j, k and m are 0.
-    fn has_only_i(self) -> bool
-        ensures { result ≡ (self.j == 0 && (self.k == 0 && self.m == 0)) }
-    {
-        self.j == 0 && self.k == 0 && self.m == 0
-    }
+    ghost try_from_gives = { λ f r. r ≡ ok_or (kind_of f) NoKind };
 
-    // Whether j and m are 0.
-    fn has_only_i_and_k(self) -> bool
-        ensures { result ≡ (self.j == 0 && self.m == 0) }
+    fn try_from(fields: Fields) -> Result<Kind, Refusal>
+        ensures value { result ≡ ok_or (kind_of fields) NoKind }
+        ensures from { (k : Kind) → result ≡ Ok k → fields_of k ≡ fields }
     {
-        self.j == 0 && self.m == 0
-    }
-
-    // The kind that has these fields: none where the byte is that of no kind, or a field is not 0 that the kind does not use.
-    pub fn kind(self) -> Option<Kind>
-        ensures value { result ≡ kind_of self }
-        ensures from { (k : Kind) → result ≡ Some k → fields_of k ≡ self }
-    {
-        match self.kind {
-            LOW if self.has_only_i() => Some(Kind::Low { unknown: self.i }),
-            HIGH if self.has_only_i() => Some(Kind::High { unknown: self.i }),
-            ROW if self.has_only_i() => Some(Kind::Row { place: self.i }),
-            SUM => Some(Kind::Sum {
-                first: self.i,
-                second: self.j,
-                k: self.k,
-                m: self.m,
+        match (fields.kind, fields.i, fields.j, fields.k, fields.m) {
+            (LOW, unknown, 0, 0, 0) => Ok(Kind::Low { unknown }),
+            (HIGH, unknown, 0, 0, 0) => Ok(Kind::High { unknown }),
+            (ROW, place, 0, 0, 0) => Ok(Kind::Row { place }),
+            (SUM, first, second, k, m) => Ok(Kind::Sum {
+                first,
+                second,
+                k,
+                m,
             }),
-            CUT if self.has_only_i_and_k() => Some(Kind::Cut {
-                line: self.i,
-                k: self.k,
-            }),
-            _ => None,
+            (CUT, line, 0, k, 0) => Ok(Kind::Cut { line, k }),
+            _ => Err(Refusal::Kind),
         }
     }
 }

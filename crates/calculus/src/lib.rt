@@ -8,6 +8,7 @@ mod limits;
 mod promises;
 mod ranges;
 mod refusals;
+mod rows;
 mod sides;
 mod trails;
 
@@ -23,5 +24,6 @@ pub use limits::{
 pub use promises::{days_stand, promises_stand};
 pub use ranges::Range;
 pub use refusals::Refusal;
+pub use rows::RowView;
 pub use sides::Side;
 pub use trails::{Bound, Entry};

@@ -1,5 +1,5 @@
 // The values that an unknown may take: from low to high, both ends included.
-#[derive(Clone, Copy, PartialEq, Eq)]
+#[derive(Clone, Copy, Debug, PartialEq, Eq)]
 pub struct Range {
     pub low: i32,
     pub high: i32,

@@ -1,9 +1,12 @@
 // The numbered refusals.
 ghost use Rattle.calculus.specs.Refusals.{listed};
-ghost use Rattle.std.specs.Prelude.{◌≡◌};
+ghost use Rattle.calculus.specs.Wording.{refusal_worded};
+ghost use Rattle.std.specs.Prelude.{◌≡◌, Some};
+
+use std::fmt;
 
 // Why a call was refused.
-#[derive(Clone, Copy)]
+#[derive(Clone, Copy, Debug, PartialEq, Eq)]
 pub enum Refusal {
     Shape = 1,
     Range = 2,
@@ -61,5 +64,16 @@ impl Refusal {
             Refusal::Open => "open",
             Refusal::Frame => "frame",
         }
+    }
+}
+
+// The number and the word.
+impl fmt::Display for Refusal {
+    ghost output = { λ r. Some (refusal_worded r) };
+
+    fn fmt<W: fmt::Write>(&self, f: &mut fmt::Formatter<W>) -> fmt::Result {
+        let number = self.number();
+        let word = self.word();
+        write!(f, "{number} {word}")
     }
 }

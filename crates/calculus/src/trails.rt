@@ -3,7 +3,7 @@ use super::sides::Side;
 
 // An entry of the trail. On side low it says that the unknown is at least the bound, on side high at most. Its cause is the line of the
 // log that is its reason; a decision has none.
-#[derive(Clone, Copy)]
+#[derive(Clone, Copy, Debug, PartialEq, Eq)]
 pub struct Entry {
     pub unknown: usize,
     pub side: Side,
@@ -12,7 +12,7 @@ pub struct Entry {
 }
 
 // What a row says of one unknown: at least the value (low) or at most (high).
-#[derive(Clone, Copy)]
+#[derive(Clone, Copy, Debug, PartialEq, Eq)]
 pub struct Bound {
     pub side: Side,
     pub value: i32,

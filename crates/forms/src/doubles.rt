@@ -1,16 +1,20 @@
 // Reduced forms and doubles. Reduced rows are compared and never built.
-ghost use Rattle.std.specs.Prelude.{◌≡◌, ◌<◌, map, length};
-ghost use Rattle.calculus.specs.Account.{standing};
-ghost use Rattle.calculus.specs.Arithmetic.{floor, ceiling, same_number};
-ghost use Rattle.calculus.specs.Rows.{row_divisor, same_numbers, double};
+ghost use Rattle.std.specs.Prelude.{◌≡◌, ◌<◌};
+ghost use Rattle.std.specs.List.{list_all, zip};
+ghost use Rattle.calculus.specs.Account.{seen};
+ghost use Rattle.calculus.specs.Arithmetic.{floor, same_number};
+ghost use Rattle.calculus.specs.Rows.{double, reduced, row_divisor, same_numbers};
 
 use crate::arithmetic::{ceil_div, common_divisor, floor_div};
+use calculus::RowView;
 
-// What a standing row has beside its coefficients.
+// A row and what it is divided by in its reduced form.
 #[derive(Clone, Copy)]
-pub struct Header {
-    pub label: u8,
-    pub constant: i32,
+struct Reduced<'a> {
+    row: RowView<'a>,
+    by: u32,
+    ghost divides: { 0 < by },
+    ghost divisor: { by ≡ row_divisor row.coefficients.now },
 }
 
 // What the row is divided by in its reduced form, at least 1.
@@ -18,53 +22,59 @@ fn divisor_of(coefficients: &[i32]) -> u32
     ensures value { result ≡ row_divisor coefficients.now }
     ensures bound { 0 < result }
 {
-    let mut common = 0;
-    for c in coefficients {
-        common = common_divisor(common, c.unsigned_abs());
-    }
-    common.max(1)
+    coefficients
+        .iter()
+        .fold(0, |common, c| common_divisor(common, c.unsigned_abs()))
+        .max(1)
 }
 
-// Whether two coefficients, each divided by its row's divisor, are equal.
-fn same_quotient(left: i32, left_by: u32, right: i32, right_by: u32) -> bool
-    requires left_by { 0 < left_by }
-    requires right_by { 0 < right_by }
-    ensures { result ≡ same_number (floor left left_by) (floor right right_by) }
+// Whether two numbers are equal.
+fn is_same(y: i64, z: i64) -> bool
+    ensures { result ≡ same_number y z }
 {
-    floor_div(left, left_by) == floor_div(right, right_by)
+    y == z
 }
 
-// Whether two constants, each divided by its row's divisor and rounded up, are equal.
-fn same_constant(left: i32, left_by: u32, right: i32, right_by: u32) -> bool
-    requires left_by { 0 < left_by }
-    requires right_by { 0 < right_by }
-    ensures { result ≡ same_number (ceiling left left_by) (ceiling right right_by) }
-{
-    ceil_div(left, left_by) == ceil_div(right, right_by)
-}
-
-// Whether the coefficients of two reduced forms are equal.
-fn same_coefficients(left: &[i32], left_by: u32, right: &[i32], right_by: u32) -> bool
-    requires left_by { 0 < left_by }
-    requires right_by { 0 < right_by }
-    requires len { length left.now ≡ length right.now }
-    ensures { result ≡ same_numbers (map (λ c. floor c left_by) left.now) (map (λ c. floor c right_by) right.now) }
-{
-    for i in 0..left.len() {
-        if !same_quotient(left[i], left_by, right[i], right_by) {
-            return false;
+impl<'a> Reduced<'a> {
+    fn of(row: RowView<'a>) -> Reduced<'a>
+        ensures { result.row ≡ row.entry }
+    {
+        Reduced {
+            row,
+            by: divisor_of(row.coefficients),
         }
     }
-    true
+
+    // The constant, divided and rounded up.
+    fn constant(self) -> i64
+        ensures { result ≡ (reduced (seen self.entry.row).row).constant }
+    {
+        ceil_div(self.row.constant, self.by)
+    }
+
+    // Whether the coefficients of two reduced forms are equal, pair by pair.
+    fn agrees_with(self, other: Reduced<'_>) -> bool
+        ensures { result ≡ list_all (λ p. same_number (floor p.0 self.entry.by) (floor p.1 other.entry.by)) (zip self.entry.row.coefficients.now other.entry.row.coefficients.now) }
+    {
+        self.row.coefficients.iter().zip(other.row.coefficients).all(|(c, d)| is_same(
+            floor_div(*c, self.by),
+            floor_div(*d, other.by),
+        ))
+    }
+
+    // Whether the coefficients of two reduced forms are equal.
+    fn has_coefficients_of(self, other: Reduced<'_>) -> bool
+        ensures { result ≡ same_numbers (reduced (seen self.entry.row).row).coefs (reduced (seen other.entry.row).row).coefs }
+    {
+        self.row.coefficients.len() == other.row.coefficients.len() && self.agrees_with(other)
+    }
 }
 
 // Whether one row is a double of the other.
-pub fn is_double(left: Header, left_row: &[i32], right: Header, right_row: &[i32]) -> bool
-    requires { length left_row.now ≡ length right_row.now }
-    ensures { result ≡ double (standing left.label left_row.now left.constant) (standing right.label right_row.now right.constant) }
+pub fn is_double(left: RowView<'_>, right: RowView<'_>) -> bool
+    ensures { result ≡ double (seen left.entry) (seen right.entry) }
 {
-    let left_by = divisor_of(left_row);
-    let right_by = divisor_of(right_row);
-    same_coefficients(left_row, left_by, right_row, right_by)
-        && same_constant(left.constant, left_by, right.constant, right_by)
+    let left = Reduced::of(left);
+    let right = Reduced::of(right);
+    left.has_coefficients_of(right) && is_same(left.constant(), right.constant())
 }

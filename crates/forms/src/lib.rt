@@ -4,4 +4,4 @@
 mod arithmetic;
 mod doubles;
 
-pub use doubles::{Header, is_double};
+pub use doubles::is_double;

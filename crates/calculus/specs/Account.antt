@@ -1,10 +1,10 @@
 -- The account of a day: what stands, by the ranges and the arguments of each call alone.
 use Rattle.std.specs.Prelude.{ℕ, Bool, true, false, not, ◌||◌, List, [], ◌∷◌, ◌++◌, length, take, ℤ, Ok, Err, Result, ◌==◌, int_lt, nat_le}
+use Rattle.std.specs.List.{list_any}
 use Rattle.calculus.specs.Arithmetic.{near}
 use Rattle.calculus.specs.Limits.{most_unknowns, most_rows, most_marks, end_limit, added_coefficient_limit, added_constant_limit}
 use Rattle.calculus.specs.Rows.{Standing, doubled}
 use Rattle.calculus.specs.declared.ranges.Range.{Range}
-use Rattle.calculus.specs.declared.rows.RowView.{RowView}
 use Rattle.calculus.specs.declared.refusals.Refusal.{Refusal}
 use Rattle.calculus.specs.declared.refusals.Refusal.TheVariants.{Shape, Range as BadRange, Weight, Label, Double, Full, Marks, Unmarked}
 
@@ -43,10 +43,9 @@ left (Err r) new found = found
 abbrev pub bad_range : ℤ → ℤ → Bool
 bad_range low high = int_lt high low || (not (near end_limit low) || not (near end_limit high))
 
--- a coefficient outside its limits
+-- some coefficient lies outside its limits
 abbrev pub heavy : List ℤ → Bool
-heavy [] = false
-heavy (c ∷ cs) = not (near added_coefficient_limit c) || heavy cs
+heavy cs = list_any (λ c. not (near added_coefficient_limit c)) cs
 
 -- ---- the draft: ranges alone
 
@@ -73,10 +72,6 @@ settled ranges = record { ranges = ranges; rows = []; marks = [] }
 -- a row under its label, as it is added
 abbrev pub standing : ℕ → List ℤ → ℤ → Standing
 standing label cs k = record { label = label; row = record { coefs = cs; constant = k } }
-
--- a row that is lent, as a standing one
-abbrev pub seen : RowView → Standing
-seen v = standing v.label v.coefficients.now v.constant
 
 -- adding a row: the tests in the order of their numbers
 abbrev pub add_tests : Account → ℕ → List ℤ → ℤ → List Test

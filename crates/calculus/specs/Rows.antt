@@ -1,6 +1,6 @@
 -- Ranges, rows, what it means to meet them, reduced forms and doubles.
 use Rattle.std.specs.Prelude.{ℕ, max, Bool, true, false, ◌&&◌, ◌||◌, List, [], ◌∷◌, map, length, ℤ, pos, ◌+ℤ◌, ◌*ℤ◌, ◌≤ℤ◌, slice_index_or}
-use Rattle.std.specs.List.{AllByRecursion}
+use Rattle.std.specs.List.{AllByRecursion, list_any}
 use Rattle.calculus.specs.Arithmetic.{sum, floor, ceiling, common, same_number}
 use Rattle.calculus.specs.declared.ranges.Range.{Range}
 
@@ -69,5 +69,4 @@ double s t = same_row (reduced s.row) (reduced t.row)
 
 -- a double of s stands among the rows
 abbrev pub doubled : List Standing → Standing → Bool
-doubled [] s = false
-doubled (t ∷ ts) s = double t s || doubled ts s
+doubled rows s = list_any (λ t. double t s) rows

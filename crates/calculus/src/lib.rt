@@ -8,7 +8,6 @@ mod limits;
 mod promises;
 mod ranges;
 mod refusals;
-mod rows;
 mod sides;
 mod trails;
 
@@ -24,6 +23,5 @@ pub use limits::{
 pub use promises::{days_stand, promises_stand};
 pub use ranges::Range;
 pub use refusals::Refusal;
-pub use rows::RowView;
 pub use sides::Side;
 pub use trails::{Bound, Entry};

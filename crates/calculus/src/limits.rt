@@ -13,10 +13,10 @@ pub const MAX_MARKS: usize = 8;
 pub const MAX_LINES: usize = 65_536;
 
 // An end of a range, above and below 0.
-pub const MAX_END: u32 = 1_048_576;
+pub const MAX_END: u64 = 1_048_576;
 
 // A coefficient of an added row, above and below 0.
-pub const MAX_COEFFICIENT: u32 = 32_768;
+pub const MAX_COEFFICIENT: u64 = 32_768;
 
 // The constant of an added row, above and below 0.
 pub const MAX_CONSTANT: u64 = 1_073_741_824;

@@ -1,6 +1,6 @@
 // Division rounded down and up, and the common divisor.
 ghost use Rattle.std.specs.Prelude.{◌≡◌, ◌<◌};
-ghost use Rattle.calculus.specs.Arithmetic.{floor, ceiling, divisor};
+ghost use Rattle.calculus.specs.Arithmetic.{floor, ceiling, divisor, near};
 
 // z divided by a number above 0, rounded down.
 pub(crate) fn floor_div(z: i32, by: u32) -> i64
@@ -23,4 +23,11 @@ pub(crate) fn common_divisor(a: u32, b: u32) -> u32
     ensures { result ≡ divisor a b }
 {
     if b == 0 { a } else { common_divisor(b, a % b) }
+}
+
+// Whether a number lies from -limit to limit.
+pub fn is_near(limit: u64, z: i64) -> bool
+    ensures { result ≡ near limit z }
+{
+    z.unsigned_abs() <= limit
 }

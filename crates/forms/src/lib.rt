@@ -3,5 +3,7 @@
 
 mod arithmetic;
 mod doubles;
+mod rows;
 
-pub use doubles::is_double;
+pub use arithmetic::is_near;
+pub use rows::Row;

@@ -1,40 +1,41 @@
 -- What the stored ranges, rows and marks mean: the account of the day.
-use Rattle.std.specs.Prelude.{ℕ, List, [], ◌∷◌, map, reverse, take, drop, ℤ, vec_items, vec_len}
-use Rattle.calculus.specs.Account.{Account, standing}
+use Rattle.std.specs.Prelude.{◌≡◌, ℕ, ◌≤◌, List, [], map, length, reverse, vec_len, vec_capacity, All}
+use Rattle.calculus.specs.Account.{Account}
+use Rattle.calculus.specs.Limits.{most_unknowns, most_rows, most_marks}
 use Rattle.calculus.specs.Rows.{Standing}
 use Rattle.calculus.specs.declared.ranges.Range.{Range}
-use Rattle.forms.specs.declared.doubles.Header.{Header}
-use Rattle.rows.specs.declared.store.Blank.{Blank}
 use Rattle.rows.specs.declared.store.Mark.{Mark}
-use Rattle.rows.specs.declared.store.RowView.{RowView}
-use Rattle.rows.specs.declared.store.Rows.{Rows}
 use Rattle.rows.specs.declared.store.Span.{Span}
+use Rattle.rows.specs.declared.store.Blank.TheInside.{Inside as InBlank}
+use Rattle.rows.specs.declared.store.Rows.TheInside.{Inside as InRows}
 
--- the ranges of a blank
-abbrev pub ranges_in : Blank → List Range
-ranges_in b = map (λ (s : Span). s.range) (vec_items b.spans)
-
--- rows of n coefficients, from their headers and the coefficients that lie row after row
-abbrev pub rows_of : ℕ → List Header → List ℤ → List Standing
-rows_of n [] cs = []
-rows_of n (h ∷ hs) cs = standing h.label (take n cs) h.constant ∷ rows_of n hs (drop n cs)
+-- the ranges of declared unknowns
+abbrev pub ranges_of : List Span → List Range
+ranges_of spans = map (λ (s : Span). s.range) spans
 
 -- the marks, newest first
 abbrev pub marks_of : List Mark → List ℕ
-marks_of ms = reverse (map (λ (m : Mark). m.rows) ms)
+marks_of marks = reverse (map (λ (m : Mark). m.rows) marks)
 
--- the account that the stored ranges, headers, coefficients and marks stand for
-abbrev pub account_of : Rows → Account
-account_of t = record {
-  ranges = map (λ (s : Span). s.range) (vec_items t.spans);
-  rows = rows_of (vec_len t.spans) (vec_items t.headers) (vec_items t.coefficients);
-  marks = marks_of (vec_items t.marks);
-}
+-- the account that the stored ranges, rows and marks stand for
+abbrev pub account_of : InRows → Account
+account_of t = record { ranges = ranges_of t.spans.items; rows = t.rows.items; marks = marks_of t.marks.items }
 
--- the account with its first rows alone
-abbrev pub with_first : ℕ → Account → Account
-with_first k a = record { ranges = a.ranges; rows = take k a.rows; marks = a.marks }
+-- A blank has no more ranges than a ticket may have, no row and no mark, and memory for all that may come.
+pub record IsReserved (b : InBlank) : Type 0 where
+  pub spans_few : vec_len b.spans ≤ most_unknowns
+  pub spans_room : most_unknowns ≤ vec_capacity b.spans
+  pub rows_none : b.rows.items ≡ []
+  pub rows_room : most_rows ≤ vec_capacity b.rows
+  pub marks_none : b.marks.items ≡ []
+  pub marks_room : most_marks ≤ vec_capacity b.marks
 
--- a standing row that is lent
-abbrev pub seen : RowView → Standing
-seen v = standing v.label v.coefficients.now v.constant
+-- A ticket holds no more ranges, rows and marks than it may have, a coefficient of each row for each range, and memory for all rows and
+-- marks that may come.
+pub record IsStored (t : InRows) : Type 0 where
+  pub spans_few : vec_len t.spans ≤ most_unknowns
+  pub rows_few : vec_len t.rows ≤ most_rows
+  pub rows_room : most_rows ≤ vec_capacity t.rows
+  pub rows_wide : All (λ (s : Standing). length s.row.coefs ≡ vec_len t.spans) t.rows.items
+  pub marks_few : vec_len t.marks ≤ most_marks
+  pub marks_room : most_marks ≤ vec_capacity t.marks

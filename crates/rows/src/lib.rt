@@ -3,4 +3,5 @@
 
 mod store;
 
-pub use store::{Blank, RowView, Rows};
+pub use forms::Row;
+pub use store::{Blank, Rows};

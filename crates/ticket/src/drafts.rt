@@ -1,23 +1,33 @@
 // A draft only takes unknowns, and settling uses it up.
 ghost use Rattle.std.specs.Prelude.{◌≡◌, [], IfOk};
 ghost use Rattle.calculus.specs.Account.{declare_answer, declared, settled};
-ghost use Rattle.ticket.specs.Meaning.{account, ranges_of};
 
 use crate::tickets::Ticket;
 use calculus::Refusal;
 use rows::Blank;
 use std::alloc::{AllocError, Global};
+use std::marker::Model;
 
+// A contract sees the ranges declared so far.
 #[derive(Drop)]
 pub struct Draft {
     // the ranges declared so far, and all the memory that the ticket will use
     blank: Blank,
 }
 
+impl Model for Draft {
+    ghost use Rattle.std.specs.Prelude.{List};
+    ghost use Rattle.calculus.specs.declared.ranges.Range.{Range};
+
+    ghost Value = { List Range };
+
+    ghost view = { λ d. d.blank };
+}
+
 impl Draft {
     // A draft with no unknown. It reserves all memory, so that no later call can want any.
     pub fn new(heap: Global) -> Result<Draft, AllocError>
-        ensures ranges { IfOk result (λ d. ranges_of d ≡ []) }
+        ensures ranges { IfOk result (λ d. d ≡ []) }
     {
         let blank = Blank::new(heap)?;
         Ok(Draft { blank })
@@ -25,15 +35,15 @@ impl Draft {
 
     // Gives the next unknown its range and answers its number, from 0.
     pub fn declare(&mut self, low: i32, high: i32) -> Result<usize, Refusal>
-        ensures answer { result ≡ declare_answer (ranges_of self.old) low high }
-        ensures ranges { ranges_of self.new ≡ declared (ranges_of self.old) low high }
+        ensures answer { result ≡ declare_answer self.old low high }
+        ensures ranges { self.new ≡ declared self.old low high }
     {
         self.blank.declare(low, high)
     }
 
     // The ticket with these unknowns; no row and no mark stands.
     pub fn settle(self) -> Ticket
-        ensures account { account result ≡ settled (ranges_of self) }
+        ensures account { result ≡ settled self }
     {
         let Draft { blank } = self;
         Ticket::over(blank.settle())

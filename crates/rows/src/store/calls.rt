@@ -1,68 +1,44 @@
 // Add, mark and return.
-ghost use Rattle.std.specs.Prelude.{◌≡◌, not, ◌||◌, length, vec_len};
-ghost use Rattle.calculus.specs.Account.{add_answer, added, heavy, mark_answer, marked, return_answer, returned, standing};
+ghost use Rattle.std.specs.Prelude.{◌≡◌, not, ◌||◌};
+ghost use Rattle.calculus.specs.Account.{add_answer, added, heavy, mark_answer, marked, return_answer, returned};
 ghost use Rattle.calculus.specs.Arithmetic.{near};
-ghost use Rattle.calculus.specs.Limits.{added_coefficient_limit, added_constant_limit};
+ghost use Rattle.calculus.specs.Limits.{added_constant_limit};
 ghost use Rattle.calculus.specs.Rows.{doubled};
-ghost use Rattle.rows.specs.Store.{account_of};
 
-use super::Rows;
+use super::{Mark, Rows};
 use calculus::{MAX_COEFFICIENT, MAX_CONSTANT, MAX_MARKS, MAX_ROWS, Refusal};
-use forms::{Header, is_double};
-
-// Whether a coefficient lies outside its limits.
-fn is_heavy(coefficient: i32) -> bool
-    ensures { result ≡ not (near added_coefficient_limit coefficient) }
-{
-    coefficient.unsigned_abs() > MAX_COEFFICIENT
-}
+use forms::{Row, is_near};
 
 // Whether a coefficient of the list lies outside its limits.
 fn has_heavy(coefficients: &[i32]) -> bool
     ensures { result ≡ heavy coefficients.now }
 {
-    for c in coefficients {
-        if is_heavy(*c) {
-            return true;
-        }
-    }
-    false
-}
-
-// Whether a constant lies outside its limits.
-fn is_far(constant: i64) -> bool
-    ensures { result ≡ not (near added_constant_limit constant) }
-{
-    constant.unsigned_abs() > MAX_CONSTANT
+    coefficients
+        .iter()
+        .any(|c| !is_near(MAX_COEFFICIENT, i64::from(*c)))
 }
 
 // Whether a number of the row lies outside its limits.
 fn is_overweight(coefficients: &[i32], constant: i64) -> bool
     ensures { result ≡ (heavy coefficients.now || not (near added_constant_limit constant)) }
 {
-    has_heavy(coefficients) || is_far(constant)
+    has_heavy(coefficients) || !is_near(MAX_CONSTANT, constant)
 }
 
 impl Rows {
     // Whether a double of the row stands.
-    fn has_double(&self, added: Header, row: &[i32]) -> bool
-        requires { length row.now ≡ vec_len self.now.spans }
-        ensures { result ≡ doubled (account_of self.now).rows (standing added.label row.now added.constant) }
+    fn has_double(&self, added: &Row) -> bool
+        ensures { result ≡ doubled self.now.rows added.now }
     {
-        for (i, header) in self.headers.iter().enumerate() {
-            if is_double(*header, self.coefficients_at(i), added, row) {
-                return true;
-            }
-        }
-        false
+        self.rows.iter().any(|row| row.is_double(added))
     }
 
     // One row more, kept as it is given.
     pub fn add(&mut self, label: u8, coefficients: &[i32], constant: i64) -> Result<(), Refusal>
-        ensures answer { result ≡ add_answer (account_of self.old) label coefficients.now constant }
-        ensures account { account_of self.new ≡ added (account_of self.old) label coefficients.now constant }
+        ensures answer { result ≡ add_answer self.old label coefficients.now constant }
+        ensures account { self.new ≡ added self.old label coefficients.now constant }
     {
-        if coefficients.len() != self.width() {
+        if coefficients.len() != self.spans.len() {
             return Err(Refusal::Shape);
         }
         if is_overweight(coefficients, constant) {
@@ -71,42 +47,38 @@ impl Rows {
         if label == 0 {
             return Err(Refusal::Label);
         }
-        let header = Header {
-            label,
-            constant: constant as i32,
-        };
-        if self.has_double(header, coefficients) {
+        let row = Row::new(label, coefficients, constant as i32)?;
+        if self.has_double(&row) {
             return Err(Refusal::Double);
         }
-        if self.count() >= MAX_ROWS {
+        if self.rows.len() >= MAX_ROWS {
             return Err(Refusal::Full);
         }
-        self.push(header, coefficients);
+        self.rows.push_reserved(row);
         Ok(())
     }
 
     // Notes how many rows stand.
     pub fn mark(&mut self) -> Result<(), Refusal>
-        ensures answer { result ≡ mark_answer (account_of self.old) }
-        ensures account { account_of self.new ≡ marked (account_of self.old) }
+        ensures answer { result ≡ mark_answer self.old }
+        ensures account { self.new ≡ marked self.old }
     {
-        if self.mark_count() >= MAX_MARKS {
+        if self.marks.len() >= MAX_MARKS {
             return Err(Refusal::Marks);
         }
-        let mark = self.mark_here();
-        self.marks.push_reserved(mark);
+        self.marks.push_reserved(Mark {
+            rows: self.rows.len(),
+        });
         Ok(())
     }
 
     // Drops the rows added since the newest mark, and that mark.
     pub fn return_to_mark(&mut self) -> Result<(), Refusal>
-        ensures answer { result ≡ return_answer (account_of self.old) }
-        ensures account { account_of self.new ≡ returned (account_of self.old) }
+        ensures answer { result ≡ return_answer self.old }
+        ensures account { self.new ≡ returned self.old }
     {
-        let Some(mark) = self.marks.pop() else {
-            return Err(Refusal::Unmarked);
-        };
-        self.truncate(mark.rows);
+        let mark = self.marks.pop().ok_or(Refusal::Unmarked)?;
+        self.rows.truncate(mark.rows);
         Ok(())
     }
 }

@@ -1,40 +1,34 @@
 // A blank, its unknowns, and settling.
 ghost use Rattle.std.specs.Prelude.{◌≡◌, [], IfOk};
 ghost use Rattle.calculus.specs.Account.{bad_range, declare_answer, declared, settled};
-ghost use Rattle.rows.specs.Store.{account_of, ranges_in};
 
 use super::{Blank, Rows, Span};
 use calculus::{MAX_END, MAX_MARKS, MAX_ROWS, MAX_UNKNOWNS, Range, Refusal};
+use forms::is_near;
 use std::alloc::{AllocError, Global};
 
 // Whether an end lies outside its limits, or low above high.
 fn is_bad_range(low: i32, high: i32) -> bool
     ensures { result ≡ bad_range low high }
 {
-    high < low || low.unsigned_abs() > MAX_END || high.unsigned_abs() > MAX_END
+    high < low || !is_near(MAX_END, i64::from(low)) || !is_near(MAX_END, i64::from(high))
 }
 
 impl Blank {
     // No unknown yet, and memory for all that a ticket may hold. The one call that can want memory.
     pub fn new(heap: Global) -> Result<Blank, AllocError>
-        ensures ranges { IfOk result (λ b. ranges_in b ≡ []) }
+        ensures ranges { IfOk result (λ b. b ≡ []) }
     {
         let spans = Vec::with_capacity(heap, MAX_UNKNOWNS)?;
-        let headers = Vec::with_capacity(heap, MAX_ROWS)?;
-        let coefficients = Vec::with_capacity(heap, MAX_ROWS * MAX_UNKNOWNS)?;
+        let rows = Vec::with_capacity(heap, MAX_ROWS)?;
         let marks = Vec::with_capacity(heap, MAX_MARKS)?;
-        Ok(Blank {
-            spans,
-            headers,
-            coefficients,
-            marks,
-        })
+        Ok(Blank { spans, rows, marks })
     }
 
     // The next unknown, with its range; answers its number.
     pub fn declare(&mut self, low: i32, high: i32) -> Result<usize, Refusal>
-        ensures answer { result ≡ declare_answer (ranges_in self.old) low high }
-        ensures ranges { ranges_in self.new ≡ declared (ranges_in self.old) low high }
+        ensures answer { result ≡ declare_answer self.old low high }
+        ensures ranges { self.new ≡ declared self.old low high }
     {
         let unknown = self.spans.len();
         if unknown >= MAX_UNKNOWNS {
@@ -51,19 +45,9 @@ impl Blank {
 
     // Ends the declaring; no row and no mark stands yet.
     pub fn settle(self) -> Rows
-        ensures account { account_of result ≡ settled (ranges_in self) }
+        ensures account { result ≡ settled self }
     {
-        let Blank {
-            spans,
-            headers,
-            coefficients,
-            marks,
-        } = self;
-        Rows {
-            spans,
-            headers,
-            coefficients,
-            marks,
-        }
+        let Blank { spans, rows, marks } = self;
+        Rows { spans, rows, marks }
     }
 }

@@ -1,56 +1,50 @@
 // Questions, which change nothing.
-ghost use Rattle.std.specs.Prelude.{◌≡◌, length};
-ghost use Rattle.std.specs.Option.{option_map};
-ghost use Rattle.std.specs.List.{slice_get};
-ghost use Rattle.rows.specs.Store.{account_of, seen};
+ghost use Rattle.std.specs.Prelude.{◌≡◌, length, option_copied, slice_get};
 
-use super::{RowView, Rows};
+use super::Rows;
 use calculus::Range;
+use forms::Row;
 
 impl Rows {
     // The number of unknowns.
     pub fn unknowns(&self) -> usize
-        ensures { result ≡ length (account_of self.now).ranges }
+        ensures { result ≡ length self.now.ranges }
     {
-        self.width()
+        self.spans.len()
     }
 
     // The range of an unknown, where there is one of that number.
     pub fn range(&self, unknown: usize) -> Option<Range>
-        ensures { result ≡ slice_get (account_of self.now).ranges unknown }
+        ensures { result ≡ slice_get self.now.ranges unknown }
     {
-        if unknown >= self.width() {
-            return None;
-        }
-        Some(self.spans[unknown].range)
+        self.spans.get(unknown).map(|span| span.range)
     }
 
     // How many rows stand.
     pub fn len(&self) -> usize
-        ensures { result ≡ length (account_of self.now).rows }
+        ensures { result ≡ length self.now.rows }
     {
-        self.count()
+        self.rows.len()
     }
 
     // How many marks stand.
     pub fn marks(&self) -> usize
-        ensures { result ≡ length (account_of self.now).marks }
+        ensures { result ≡ length self.now.marks }
     {
-        self.mark_count()
+        self.marks.len()
+    }
+
+    // The standing rows, in the order added.
+    pub fn rows(&self) -> &[Row]
+        ensures { result.now ≡ self.now.rows }
+    {
+        self.rows.as_slice()
     }
 
     // The standing row at a place, in the order added, from 0.
-    pub fn row(&self, place: usize) -> Option<RowView<'_>>
-        ensures { option_map seen result ≡ slice_get (account_of self.now).rows place }
+    pub fn row(&self, place: usize) -> Option<&Row>
+        ensures { option_copied result ≡ slice_get self.now.rows place }
     {
-        if place >= self.count() {
-            return None;
-        }
-        let header = self.headers[place];
-        Some(RowView {
-            label: header.label,
-            coefficients: self.coefficients_at(place),
-            constant: header.constant,
-        })
+        self.rows.get(place)
     }
 }

@@ -3,7 +3,7 @@ use Rattle.std.specs.Prelude.{decimal}
 use Rattle.std.specs.Fmt.{HasWritten, IsPlainFormatter}
 use Rattle.std.specs.List.{flat_map}
 use Rattle.calculus.specs.Wording.{spaced}
-use Rattle.calculus.proofs.rows.RowViewDisplay.fmt.Given as goal
+use Rattle.forms.proofs.rows.RowDisplay.fmt.Given as goal
 
 abbrev pub invariant-loop-coefficient : goal.invariant-loop-coefficient
 invariant-loop-coefficient g l =

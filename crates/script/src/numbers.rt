@@ -5,6 +5,7 @@ ghost use Rattle.std.specs.Prelude.{◌≡◌, ◌-◌, ◌^◌, min, pos, Some}
 ghost use Rattle.std.specs.Int.{saturate_to_bits};
 
 // The number that digits write, 2^64 - 1 where it is larger.
+#[tactic(auto, using(crate::proofs::Saturation::cut_none, crate::proofs::Saturation::cut_more, crate::proofs::Saturation::cut_end))]
 fn read_digits(text: &[u8]) -> Option<u64>
     ensures { result ≡ option_map (λ n. min n (2 ^ 64 - 1)) (digits_after 0 text.now) }
 {
@@ -52,8 +53,8 @@ pub(crate) fn read_wide(text: &[u8]) -> Option<i64>
     ensures { result ≡ nearest_i64 text.now }
 {
     match text {
-        [b'-', digits @ ..] => under_zero(read_magnitude(digits)?),
-        _ => Some(above_zero(read_magnitude(text)?)),
+        [b'-', digits @ ..] => read_magnitude(digits).and_then(under_zero),
+        _ => read_magnitude(text).map(above_zero),
     }
 }
 

@@ -24,10 +24,10 @@ impl<'a> Words<'a> {
     }
 }
 
-fn is_blank(b: u8) -> bool
-    ensures { result ≡ blank b }
+fn is_blank(byte: &u8) -> bool
+    ensures { result ≡ blank byte.now }
 {
-    matches!(b, b' ' | b'\t' | b'\r')
+    matches!(byte, b' ' | b'\t' | b'\r')
 }
 
 impl<'a> Iterator for Words<'a> {
@@ -40,10 +40,10 @@ impl<'a> Iterator for Words<'a> {
     ghost remaining = { item_count (λ words. words) };
 
     fn next(&mut self) -> Option<&'a [u8]> {
-        let start = self.rest.iter().position(|b| !is_blank(*b))?;
+        let start = self.rest.iter().position(|byte| !is_blank(byte))?;
         let text = &self.rest[start..];
-        let len = text.iter().position(|b| is_blank(*b));
-        let (word, rest) = text.split_at(len.unwrap_or(text.len()));
+        let end = text.iter().position(is_blank).unwrap_or(text.len());
+        let (word, rest) = text.split_at(end);
         self.rest = rest;
         Some(word)
     }

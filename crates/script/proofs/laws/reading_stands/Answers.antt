@@ -4,12 +4,17 @@ use Rattle.script.proofs.Parting.{words_whole, words_keep}
 use Rattle.script.proofs.Back.{reads_back, stays_outside}
 use Rattle.script.proofs.laws.reading_stands.Goals as goal
 
-pub returns : goal.returns
-returns c = record {
-  words_whole = words_whole;
-  words_keep = words_keep;
-  reads_back = reads_back;
-  stays_outside = stays_outside;
-  row_reads_back = row_reads_back;
-  worked = (refl, refl, refl, refl, refl, refl, refl, refl, refl, refl, refl, refl, refl, refl, refl, refl, refl);
-}
+pub returns-clause-words_whole : goal.returns-clause-words_whole
+returns-clause-words_whole c = words_whole
+
+pub returns-clause-words_keep : goal.returns-clause-words_keep
+returns-clause-words_keep c = words_keep
+
+pub returns-clause-reads_back : goal.returns-clause-reads_back
+returns-clause-reads_back c = reads_back
+
+pub returns-clause-stays_outside : goal.returns-clause-stays_outside
+returns-clause-stays_outside c = stays_outside
+
+pub returns-clause-row_reads_back : goal.returns-clause-row_reads_back
+returns-clause-row_reads_back c = row_reads_back

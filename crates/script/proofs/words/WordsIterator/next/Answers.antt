@@ -10,7 +10,7 @@ returns-in_err-start-clause-steps c =
 
 pub returns-clause-steps : goal.returns-clause-steps
 returns-clause-steps c =
-    let cut = first_word c.self.inside.rest.now c.in_ok-start.start c.unwrap_or.result (search rules) (search rules) (search rules) (search rules, search rules) in
+    let cut = first_word c.self.inside.rest.now c.in_ok-start.start c.unwrap_or-end.result (search rules) (search rules) (search rules) (search rules, search rules) in
     let e = c.split_at.ensures in
     sym c.self.view_is ∙ rw (e.front, e.back) cut
 

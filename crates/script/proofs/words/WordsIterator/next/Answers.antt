@@ -1,5 +1,4 @@
-use Rattle.std.proofs.Common.{◌≡◌, ◌∷◌, ◌∙◌, length, sym, ap, arith, rules}
-use Rattle.script.specs.Words.{words}
+use Rattle.std.proofs.Common.{◌∙◌, length, sym, ap, rules}
 use Rattle.script.proofs.Cutting.{first_word, no_word}
 use Rattle.script.proofs.words.WordsIterator.next.Goals as goal
 

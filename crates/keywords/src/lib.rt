@@ -2,12 +2,13 @@
 // crate of their own the words stand beside no other definition.
 #![tactic(auto)]
 
-ghost use Rattle.keywords.specs.Keywords.{named, named_later, later_word};
-ghost use Rattle.std.specs.Str.{bytes_eq};
-ghost use Rattle.std.specs.Prelude.{◌≡◌};
+ghost use Rattle.keywords.specs.Keywords.{named, later_word};
+ghost use Rattle.std.specs.Prelude.{◌≡◌, Some};
+
+use std::fmt;
 
 // A command that is known, and not offered yet.
-#[derive(Clone, Copy)]
+#[derive(Clone, Copy, Debug, PartialEq, Eq)]
 pub enum Later {
     Search,
     Check,
@@ -31,8 +32,16 @@ impl Later {
     }
 }
 
+impl fmt::Display for Later {
+    ghost output = { λ later. Some (later_word later) };
+
+    fn fmt<W: fmt::Write>(&self, f: &mut fmt::Formatter<W>) -> fmt::Result {
+        f.write_str(self.word())
+    }
+}
+
 // What a command's first word asks for.
-#[derive(Clone, Copy)]
+#[derive(Clone, Copy, Debug, PartialEq, Eq)]
 pub enum Keyword {
     Draft,
     Unknown,
@@ -44,58 +53,23 @@ pub enum Keyword {
     Later(Later),
 }
 
-fn is_word(word: &[u8], name: &[u8]) -> bool
-    ensures { result ≡ bytes_eq word.now name.now }
-{
-    word == name
-}
-
-// The command that a word begins and that is not offered yet.
-fn later_of(word: &[u8]) -> Option<Later>
-    ensures { result ≡ named_later word.now }
-{
-    if is_word(word, b"search") {
-        return Some(Later::Search);
-    }
-    if is_word(word, b"check") {
-        return Some(Later::Check);
-    }
-    if is_word(word, b"log") {
-        return Some(Later::Log);
-    }
-    if is_word(word, b"frames") {
-        return Some(Later::Frames);
-    }
-    if is_word(word, b"lines") {
-        return Some(Later::Lines);
-    }
-    None
-}
-
 // The command that a word begins.
 pub fn keyword_of(word: &[u8]) -> Option<Keyword>
     ensures { result ≡ named word.now }
 {
-    if is_word(word, b"draft") {
-        return Some(Keyword::Draft);
+    match word {
+        b"draft" => Some(Keyword::Draft),
+        b"unknown" => Some(Keyword::Unknown),
+        b"settle" => Some(Keyword::Settle),
+        b"add" => Some(Keyword::Add),
+        b"mark" => Some(Keyword::Mark),
+        b"return" => Some(Keyword::Return),
+        b"rows" => Some(Keyword::Rows),
+        b"search" => Some(Keyword::Later(Later::Search)),
+        b"check" => Some(Keyword::Later(Later::Check)),
+        b"log" => Some(Keyword::Later(Later::Log)),
+        b"frames" => Some(Keyword::Later(Later::Frames)),
+        b"lines" => Some(Keyword::Later(Later::Lines)),
+        _ => None,
     }
-    if is_word(word, b"unknown") {
-        return Some(Keyword::Unknown);
-    }
-    if is_word(word, b"settle") {
-        return Some(Keyword::Settle);
-    }
-    if is_word(word, b"add") {
-        return Some(Keyword::Add);
-    }
-    if is_word(word, b"mark") {
-        return Some(Keyword::Mark);
-    }
-    if is_word(word, b"return") {
-        return Some(Keyword::Return);
-    }
-    if is_word(word, b"rows") {
-        return Some(Keyword::Rows);
-    }
-    Some(Keyword::Later(later_of(word)?))
 }

@@ -1,31 +1,30 @@
 -- A printed row is parsed as the row that was printed.
-use Rattle.std.proofs.Common.{◌≡◌, ℕ, suc, ◌+◌, ◌%◌, ◌^◌, ◌<◌, ◌≤◌, true, false, List, [], ◌∷◌, ◌++◌, map, length, ℤ, pos, negsuc, Some, Ok, decimal, sym, refl, ap, ◌∙◌, append_assoc, append-nil, mod-lt, arith, length-append, le-leb}
+use Rattle.std.proofs.Common.{◌≡◌, ℕ, suc, ◌^◌, ◌<◌, ◌≤◌, true, false, List, [], ◌∷◌, ◌++◌, map, length, ℤ, pos, negsuc, Some, Ok, decimal, sym, refl, ap, ◌∙◌, append_assoc, append-nil, arith, length-append, le-leb}
 use lib.Signed.{mag}
 use Rattle.std.specs.List.{flat_map, AllByRecursion}
 use Rattle.std.specs.Int.{saturate_to_bits}
 use Rattle.std.specs.Option.{option_map}
 use Rattle.std.specs.Fmt.{signed_decimal}
-use Rattle.std.proofs.lemmas.Fmt.{decimal_by_steps, decimal_nonempty}
+use Rattle.std.specs.Str.Parse.{AllDigits}
+use Rattle.std.proofs.lemmas.Fmt.{decimal_is_IsNumeral, decimal_nonempty}
 use Rattle.std.proofs.lemmas.Bool.Decides.{nat_tests}
 use Rattle.script.specs.Answers.{spaced}
 use Rattle.script.specs.Commands.{add, parsed_row, parsed_add, some}
 use Rattle.script.specs.Laws.{RowReadsBack}
-use Rattle.script.specs.Numbers.{nearest_i32, nearest_i64, as_label, label_of}
+use Rattle.script.specs.Numbers.{digit, nearest_i32, nearest_i64, as_label, label_of}
 use Rattle.script.specs.Words.{blank, front, words, words_past}
-use Rattle.script.proofs.Back.{reads_back, held}
+use Rattle.script.proofs.Back.{digit_byte, reads_back, held}
 use Rattle.script.proofs.Parting.{Clear}
 
-clear_push : (w : List ℕ) (b : ℕ) → Clear w → blank b ≡ false → Clear (w ++ b ∷ [])
-clear_push [] b h e = (e, tt)
-clear_push (c ∷ w) b h e = (h.0, clear_push w b h.1 e)
+digit_clear : (b : ℕ) → digit b ≡ true → blank b ≡ false
+digit_clear b h = grind (arith, nat_tests)
 
-digit_clear : (d : ℕ) → d < 10 → blank (48 + d) ≡ false
-digit_clear d h = grind (arith, nat_tests)
+clear_digits : (ds : List ℕ) → AllDigits 10 ds → Clear ds
+clear_digits [] h = tt
+clear_digits (d ∷ ds) h = (digit_clear d (digit_byte d h.0).0, clear_digits ds h.1)
 
 clear_decimal : (n : ℕ) → n < 2 ^ 64 → Clear (decimal n)
-clear_decimal =
-    decimal_by_steps (λ n ds. Clear ds) (λ n h. (digit_clear n h, tt))
-    (λ n ds h p. clear_push ds (48 + n % 10) p (digit_clear (n % 10) (mod-lt n (omega arith))))
+clear_decimal n h = clear_digits (decimal n) (decimal_is_IsNumeral n h).0.1
 
 clear_signed : (z : ℤ) → mag z < 2 ^ 63 → Clear (signed_decimal z) × (0 < length (signed_decimal z))
 clear_signed (pos n) h = (clear_decimal n (omega arith), decimal_nonempty n (omega arith))

@@ -1,35 +1,33 @@
 -- What is printed reads back.
-use Rattle.std.proofs.Common.{◌≡◌, ℕ, zero, suc, ◌+◌, ◌-◌, ◌*◌, ◌/◌, ◌%◌, ◌^◌, ◌<◌, Bool, true, false, eqb, List, [], ◌∷◌, ◌++◌, length, get_or, ℤ, pos, negsuc, Some, None, decimal, Option, refl, ap, ◌∙◌, mod-lt, div-add-mod', arith}
+use Rattle.std.proofs.Common.{◌≡◌, ℕ, zero, suc, ◌+◌, ◌-◌, ◌*◌, ◌^◌, ◌<◌, true, false, eqb, List, [], ◌∷◌, length, get_or, ℤ, pos, negsuc, Some, decimal, refl, ap, ◌∙◌, arith}
 use lib.Signed.{mag}
 use Rattle.std.specs.Int.{saturate_to_bits}
 use Rattle.std.specs.Option.{option_map}
-use Rattle.std.proofs.lemmas.Fmt.{decimal_by_steps, decimal_digit, decimal_nonempty, first_decimal}
+use Rattle.std.specs.Char.{digit_value}
+use Rattle.std.specs.Str.Parse.{AllDigits, digits_value_after}
+use Rattle.std.proofs.lemmas.Fmt.{decimal_is_IsNumeral, decimal_digit, decimal_nonempty, first_decimal}
+use Rattle.std.proofs.lemmas.Str.{digit_value_digit}
+use Rattle.std.proofs.lemmas.Str.Parse.{digit_from_value}
 use Rattle.std.proofs.lemmas.Bool.Decides.{nat_tests}
 use Rattle.script.specs.Laws.{ReadsBack, StaysOutside}
 use Rattle.script.specs.Numbers.{digit, digits_after, magnitude, below_zero, numeral}
 
--- digits after digits
-digits_on_by : (t : Bool) (m k b : ℕ) (ds es : List ℕ) → digit b ≡ t →
-    (digits_after (10 * m + (b - 48)) ds ≡ Some k → digits_after (10 * m + (b - 48)) (ds ++ es) ≡ digits_after k es) →
-    digits_after m (b ∷ ds) ≡ Some k → digits_after m (b ∷ ds ++ es) ≡ digits_after k es
-digits_on_by true m k b ds es e on h = simp e (on (simp e at h))
-digits_on_by false m k b ds es e on h = let z : ◌≡◌ {A = Option ℕ} None (Some k) = (simp e at h) in absurd (grind arith)
+-- a printed digit is one that is read
+pub digit_byte : (b : ℕ) → digit_value b < 10 → (digit b ≡ true) × (digit_value b ≡ b - 48)
+digit_byte b h =
+    let r = digit_from_value b h in
+    let v = digit_value_digit b r in
+    (grind (arith, nat_tests), omega arith)
 
-digits_on : (m k : ℕ) (ds es : List ℕ) → digits_after m ds ≡ Some k → digits_after m (ds ++ es) ≡ digits_after k es
-digits_on m k [] es h = let e : m ≡ k = grind arith in ap (λ (n : ℕ). digits_after n es) e
-digits_on m k (b ∷ ds) es h = digits_on_by (digit b) m k b ds es refl (digits_on (10 * m + (b - 48)) k ds es) h
-
-one_digit : (m d : ℕ) → d < 10 → digits_after m ((48 + d) ∷ []) ≡ Some (m * 10 + d)
-one_digit m d h =
-    let t : digit (48 + d) ≡ true = grind (arith, nat_tests) in
-    let e : 10 * m + (48 + d - 48) ≡ m * 10 + d = omega arith in
-    simp t (ap Some e)
+digits_read : (m : ℕ) (ds : List ℕ) → AllDigits 10 ds → digits_after m ds ≡ Some (digits_value_after 10 m ds)
+digits_read m [] h = refl
+digits_read m (d ∷ ds) h =
+    let e = digit_byte d h.0 in
+    let t = e.0 in
+    simp t (digits_read (10 * m + (d - 48)) ds h.1 ∙ ap (λ (n : ℕ). Some (digits_value_after 10 n ds)) (omega (arith, e.1)))
 
 digits_back : (n : ℕ) → n < 2 ^ 64 → digits_after 0 (decimal n) ≡ Some n
-digits_back =
-    decimal_by_steps (λ n ds. digits_after 0 ds ≡ Some n)
-    (λ n h. one_digit 0 n h ∙ ap Some (omega arith))
-    (λ n ds h p. digits_on 0 (n / 10) ds _ p ∙ one_digit (n / 10) (n % 10) (mod-lt n (omega arith)) ∙ ap Some (div-add-mod' n 10))
+digits_back n h = let d = decimal_is_IsNumeral n h in digits_read 0 (decimal n) d.0.1 ∙ ap Some d.1
 
 magnitude_of : (t : List ℕ) → 0 < length t → 48 < get_or t 0 0 → magnitude t ≡ digits_after 0 t
 magnitude_of [] h f = absurd (omega arith)

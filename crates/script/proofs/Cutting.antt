@@ -1,77 +1,49 @@
 -- A line is its first word and what follows.
-use Rattle.std.proofs.Common.{◌≡◌, ℕ, suc, ◌+◌, ◌-◌, ◌<◌, ◌≤◌, Bool, true, false, cond, List, [], ◌∷◌, length, get_or, take, drop, sym, refl, ap, ◌∙◌, add-zero, arith, length-drop}
-use Rattle.std.proofs.lemmas.List.{drop_more, drop_all, take_rest, get_or-drop, nil_from_length}
+use Rattle.std.proofs.Common.{◌≡◌, ℕ, zero, suc, ◌-◌, ◌<◌, ◌≤◌, true, false, List, [], ◌∷◌, length, get_or, take, drop, add-zero, refl, ap, ◌∙◌, arith, length-drop}
+use Rattle.std.proofs.lemmas.List.{drop_all, take_rest, get_or-drop}
 use Rattle.script.specs.Words.{blank, front, words, words_past}
 
--- a blank in front changes no word
-pub words_more : (line : List ℕ) (i : ℕ) → i < length line → blank (get_or line i 0) ≡ true → words (drop (i + 1) line) ≡ words (drop i line)
-words_more line i h e = let d = drop_more line i 0 h in simp (d, e)
+-- blanks in front change no word
+blanks_past : (line : List ℕ) (start : ℕ) → start ≤ length line → ((k : ℕ) → k < start → blank (get_or line k 0) ≡ true) →
+    words line ≡ words (drop start line)
+blanks_past line zero within all = refl
+blanks_past [] (suc start) within all = refl
+blanks_past (b ∷ bs) (suc start) within all =
+    let e = all 0 (omega arith) in
+    simp e (blanks_past bs start (omega arith) (λ k less. all (suc k) (omega arith)))
 
--- one more byte of the word in front
-pub front_more : (line : List ℕ) (i n : ℕ) → i < length line → blank (get_or line i 0) ≡ false → n ≡ i + length (front (drop i line)) → n ≡ i + 1 + length (front (drop (i + 1) line))
-front_more line i n h e is = let d = drop_more line i 0 h in
-    let f : length (front (drop i line)) ≡ suc (length (front (drop (i + 1) line))) = simp (d, e) in omega arith
+pub no_word : (line : List ℕ) → ((k : ℕ) → k < length line → blank (get_or line k 0) ≡ true) → words line ≡ []
+no_word line all = blanks_past line (length line) (omega arith) all ∙ ap words (drop_all (length line) line (omega arith))
 
--- the word in front stops at a blank, or at the end
-pub front_stops : (line : List ℕ) (i n : ℕ) → i < length line → blank (get_or line i 0) ≡ true → n ≡ i + length (front (drop i line)) → i ≡ n
-front_stops line i n h e is = let d = drop_more line i 0 h in
-    let f : length (front (drop i line)) ≡ 0 = simp (d, e) in omega arith
-
-pub front_ends : (line : List ℕ) (i n : ℕ) → length line ≤ i → n ≡ i + length (front (drop i line)) → i ≡ n
-front_ends line i n h is = let d = drop_all i line h in
-    let f : length (front (drop i line)) ≡ 0 = simp d in omega arith
-
-pub front_within : (line : List ℕ) → length (front line) ≤ length line
-front_within [] = omega arith
-front_within (b ∷ bs) =
-    let on = front_within bs in
-    elim (blank b) as (λ (t : Bool). length (cond t [] (b ∷ front bs)) ≤ suc (length bs)) [ true ↦ omega arith | false ↦ omega arith ]
-
-pub front_takes : (line : List ℕ) → take (length (front line)) line ≡ front line
-front_takes [] = refl
-front_takes (b ∷ bs) =
-    let on = front_takes bs in
-    elim (blank b) as (λ (t : Bool). take (length (cond t [] (b ∷ front bs))) (b ∷ bs) ≡ cond t [] (b ∷ front bs))
-    [ true ↦ refl | false ↦ ap (λ (w : List ℕ). b ∷ w) on ]
+-- a word goes on before the next blank
+abbrev pub EndsAt : List ℕ → ℕ → Type 0
+EndsAt text end = ((k : ℕ) → k < end → blank (get_or text k 0) ≡ false) × (end < length text → blank (get_or text end 0) ≡ true)
 
 -- inside a word, the words to come are those after it
-inside_by : (t : Bool) (b : ℕ) (bs : List ℕ) → blank b ≡ t → words_past true bs ≡ words (drop (length (front bs)) bs) →
-    words_past true (b ∷ bs) ≡ words (drop (length (front (b ∷ bs))) (b ∷ bs))
-inside_by true b bs e on = simp e
-inside_by false b bs e on = simp (e, on)
+inside : (text : List ℕ) (end : ℕ) → EndsAt text end → (front text ≡ take end text) × (words_past true text ≡ words (drop end text))
+inside [] zero h = (refl, refl)
+inside [] (suc end) h = (refl, refl)
+inside (b ∷ bs) zero h = let e = h.1 (omega arith) in simp e (refl, refl)
+inside (b ∷ bs) (suc end) h =
+    let e = h.0 0 (omega arith) in
+    let i = inside bs end (λ k less. h.0 (suc k) (omega arith), λ less. h.1 (omega arith)) in
+    simp e (ap (λ (w : List ℕ). b ∷ w) i.0, i.1)
 
-inside : (line : List ℕ) → words_past true line ≡ words (drop (length (front line)) line)
-inside [] = refl
-inside (b ∷ bs) = inside_by (blank b) b bs refl (inside bs)
+first : (text : List ℕ) (end : ℕ) → 0 < length text → blank (get_or text 0 0) ≡ false → EndsAt text end →
+    words text ≡ take end text ∷ words (drop end text)
+first [] end some e h = absurd (omega arith)
+first (b ∷ bs) end some e h =
+    let i = inside (b ∷ bs) end h in
+    let j = (simp e at i) in
+    simp e (λ x. j.0 x ∷ j.1 x)
 
-first : (text : List ℕ) → 0 < length text → blank (get_or text 0 0) ≡ false →
-    (words text ≡ front text ∷ words (drop (length (front text)) text)) × (0 < length (front text))
-first [] h e = absurd (omega arith)
-first (b ∷ bs) h e = let i = inside bs in (simp (e, i), simp e (omega arith))
-
--- the text from a place on, as the code cuts it
-pub text_from : (line : List ℕ) (s : ℕ) → s ≤ length line → words (drop s line) ≡ words line →
-    (s < length line → blank (get_or line s 0) ≡ false) →
-    (words (take (length line - s) (drop s line)) ≡ words line)
-    × (length (take (length line - s) (drop s line)) ≡ length line - s)
-    × (0 < length (take (length line - s) (drop s line)) → blank (get_or (take (length line - s) (drop s line)) 0 0) ≡ false)
-text_from line s h e stops =
-    let t = take_rest line s in
-    let l = length-drop s line in
-    let d : get_or (drop s line) 0 0 ≡ get_or line s 0 = get_or-drop s line 0 0 ∙ ap (λ (k : ℕ). get_or line k 0) (add-zero s) in
-    (simp t e, simp (t, l), simp t (λ some. simp d (stops (omega arith))))
-
--- what a line's first word is, where the text begins at it
-pub first_word : (line text word rest : List ℕ) (n : ℕ) → words text ≡ words line → 0 < length text → length text ≤ length line →
-    blank (get_or text 0 0) ≡ false → n ≡ length (front text) → word ≡ take n text → rest ≡ drop n text →
-    (words line ≡ word ∷ words rest) × (length rest < length line)
-first_word line text word rest n same some short e is front-is back_is =
-    let f = first text some e in
-    let w : word ≡ front text = front-is ∙ ap (λ (k : ℕ). take k text) is ∙ front_takes text in
-    let r : rest ≡ drop (length (front text)) text = back_is ∙ ap (λ (k : ℕ). drop k text) is in
-    let l = ap length r ∙ length-drop (length (front text)) text in
-    let both : words line ≡ word ∷ words rest = simp (sym same, w, r) f.0 in
-    (both, omega arith)
-
-pub no_word : (line text : List ℕ) → words text ≡ words line → length text ≡ 0 → words line ≡ []
-no_word line text same none = sym same ∙ ap words (nil_from_length text none)
+-- the first word, as the code cuts it
+pub first_word : (line : List ℕ) (start end : ℕ) → start < length line → ((k : ℕ) → k < start → blank (get_or line k 0) ≡ true) →
+    blank (get_or line start 0) ≡ false → EndsAt (take (length line - start) (drop start line)) end →
+    words line ≡ take end (take (length line - start) (drop start line)) ∷ words (drop end (take (length line - start) (drop start line)))
+first_word line start end within all e h =
+    let t = take_rest line start in
+    let some = length-drop start line in
+    let b : get_or (drop start line) 0 0 ≡ get_or line start 0 = get_or-drop start line 0 0 ∙ ap (λ (k : ℕ). get_or line k 0) (add-zero start) in
+    let j = (simp t at h) in
+    simp t (blanks_past line start (omega arith) all ∙ first (drop start line) end (omega arith) (ap blank b ∙ e) j)

@@ -1,6 +1,5 @@
 mod Saturation
 mod Cutting
 mod Parting
-mod Wording
 mod Back
 mod Again

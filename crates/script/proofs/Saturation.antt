@@ -1,9 +1,8 @@
 -- Numbers that are cut off at the end of a type.
-use Rattle.std.proofs.Common.{◌≡◌, ℕ, zero, suc, ◌+◌, ◌-◌, ◌*◌, ◌^◌, ◌<◌, ◌≤◌, min, Bool, true, false, cond, List, [], ◌∷◌, length, get_or, take, drop, negsuc, Some, None, Option, refl, ap, ◌∙◌, arith}
-use Rattle.std.proofs.lemmas.List.{drop_more, drop_all, take_all}
-use Rattle.std.specs.Int.{saturate_to_bits}
+use Rattle.std.proofs.Common.{◌≡◌, ℕ, ◌+◌, ◌-◌, ◌*◌, ◌^◌, ◌<◌, ◌≤◌, min, Bool, true, false, cond, List, [], ◌∷◌, length, get_or, drop, Some, None, refl, ap, ◌∙◌, arith}
+use Rattle.std.proofs.lemmas.List.{drop_more, drop_all}
 use Rattle.std.specs.Option.{option_map}
-use Rattle.script.specs.Numbers.{digit, digits_after, magnitude, below_zero, nearest_i64}
+use Rattle.script.specs.Numbers.{digit, digits_after}
 
 abbrev pub cut : ℕ → ℕ
 cut n = min n (2 ^ 64 - 1)
@@ -31,23 +30,3 @@ cut_more n r text i h e is =
 -- no digit more
 pub cut_end : (n : ℕ) (text : List ℕ) (i : ℕ) → length text ≤ i → n < 2 ^ 64 → Some n ≡ option_map cut (digits_after n (drop i text))
 cut_end n text i h f = let d = drop_all i text h in let e : n ≡ cut n = omega arith in ap Some e ∙ simp d
-
--- below zero 63 bits hold less than 64
-pub under : (o : Option ℕ) (n : ℕ) → Some n ≡ option_map cut o → option_map (saturate_to_bits 63) (below_zero (Some n)) ≡ option_map (saturate_to_bits 63) (below_zero o)
-under None n e = absurd (grind arith)
-under (Some zero) n e = let z : n ≡ 0 = grind arith in simp z
-under (Some (suc k)) zero e = absurd (grind arith)
-under (Some (suc k)) (suc m) e =
-    let z : suc m ≡ cut (suc k) = grind arith in
-    let y : min m (2 ^ 63 - 1) ≡ min k (2 ^ 63 - 1) = omega arith in
-    ap (λ (x : ℕ). Some (negsuc x)) y
-
-pub none : (o : Option ℕ) → None ≡ option_map cut o → None ≡ option_map (saturate_to_bits 63) (below_zero o)
-none None e = refl
-none (Some n) e = absurd (grind arith)
-
--- after a minus sign
-pub wide_minus : (t : List ℕ) → 1 ≤ length t → get_or t 0 0 ≡ 45 → nearest_i64 t ≡ option_map (saturate_to_bits 63) (below_zero (magnitude (take (length t - 1) (drop 1 t))))
-wide_minus [] h e = absurd (omega arith)
-wide_minus (b ∷ bs) h e =
-    let r : take (suc (length bs) - 1) bs ≡ bs = take_all _ _ (omega arith) in simp (e, r)

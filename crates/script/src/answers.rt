@@ -1,6 +1,6 @@
 // The wording of answers.
-ghost use Rattle.script.specs.Answers.{worded, spaced, row_worded};
-ghost use Rattle.std.specs.Prelude.{◌≡◌, ◌++◌, Some, string_bytes, decimal, OnOk};
+ghost use Rattle.script.specs.Answers.{worded, row_worded};
+ghost use Rattle.std.specs.Prelude.{◌≡◌, ◌++◌, Some, string_bytes, OnOk};
 
 use calculus::Refusal;
 use keywords::Later;
@@ -27,42 +27,17 @@ impl fmt::Display for Answer {
     fn fmt<W: fmt::Write>(&self, f: &mut fmt::Formatter<W>) -> fmt::Result {
         match *self {
             Answer::Draft => f.write_str("draft"),
-            Answer::Unknown(k) => write!(f, "unknown {k}"),
-            Answer::Settled(n) => write!(f, "settled {n}"),
+            Answer::Unknown(unknown) => write!(f, "unknown {unknown}"),
+            Answer::Settled(unknowns) => write!(f, "settled {unknowns}"),
             Answer::Added => f.write_str("added"),
             Answer::Marked => f.write_str("marked"),
             Answer::Returned => f.write_str("returned"),
             Answer::Refused(refusal) => {
-                let number = refusal.number();
-                let word = refusal.word();
-                write!(f, "refused {number} {word}")
+                write!(f, "refused {} {}", refusal.number(), refusal.word())
             }
-            Answer::Rows(r) => write!(f, "rows {r}"),
-            Answer::NotOffered(later) => {
-                let word = later.word();
-                write!(f, "not offered yet: {word}")
-            }
+            Answer::Rows(rows) => write!(f, "rows {rows}"),
+            Answer::NotOffered(later) => write!(f, "not offered yet: {later}"),
         }
-    }
-}
-
-// Appends a label.
-fn write_label(out: &mut String, label: u8) -> Result<(), AllocError>
-    ensures { OnOk result (string_bytes out.new ≡ string_bytes out.old ++ decimal label) }
-{
-    match write!(out, "{label}") {
-        Ok(()) => Ok(()),
-        Err(_) => Err(AllocError),
-    }
-}
-
-// Appends a space and a number.
-fn write_spaced(out: &mut String, number: i32) -> Result<(), AllocError>
-    ensures { OnOk result (string_bytes out.new ≡ string_bytes out.old ++ spaced number) }
-{
-    match write!(out, " {number}") {
-        Ok(()) => Ok(()),
-        Err(_) => Err(AllocError),
     }
 }
 
@@ -76,9 +51,9 @@ pub fn write_row(
     ensures { OnOk result (string_bytes out.new
         ≡ string_bytes out.old ++ row_worded label coefficients.now constant) }
 {
-    write_label(out, label)?;
+    write!(out, "{label}")?;
     for coefficient in coefficients {
-        write_spaced(out, *coefficient)?;
+        write!(out, " {coefficient}")?;
     }
-    write_spaced(out, constant)
+    write!(out, " {constant}")
 }

@@ -1,14 +1,13 @@
 // Reading a command of the day script.
-ghost use Rattle.script.specs.Commands.{said, first, alone, parsed_unknown, parsed_row, parsed_add, parsed_as, comment, parsed, Adds, Reads};
+ghost use Rattle.script.specs.Commands.{said, alone, parsed_unknown, parsed_row, parsed_add, parsed_as, parsed, Adds, Reads};
 ghost use Rattle.keywords.specs.declared.Keyword.TheVariants.{Add};
-ghost use Rattle.script.specs.Numbers.{nearest_i32};
 ghost use Rattle.script.specs.Words.{words};
 ghost use Rattle.std.specs.Option.{option_map};
-ghost use Rattle.std.specs.Prelude.{◌≡◌, [], Some, None, MatchOption};
+ghost use Rattle.std.specs.Prelude.{◌≡◌, []};
 
 use crate::faults::{Expected, Fault};
 use crate::numbers::{read_label, read_narrow, read_wide};
-use crate::words::next_word;
+use crate::words::Words;
 use keywords::{Keyword, Later, keyword_of};
 use std::alloc::Global;
 
@@ -32,130 +31,77 @@ pub enum Command {
     Later(Later),
 }
 
-// A number, and what follows it.
-#[derive(Clone, Copy)]
-struct Number<'a> {
-    value: i32,
-    rest: &'a [u8],
-}
-
-// The number of 32 bits at the front.
-fn next_number(line: &[u8]) -> Option<Number<'_>>
-    ensures { MatchOption result (first nearest_i32 (words line.now) ≡ None)
-        (λ n. first nearest_i32 (words line.now) ≡ Some (n.value, words n.rest.now)) }
+// The command, if no word follows it.
+fn ended(command: Command, mut words: Words<'_>) -> Result<Command, Fault>
+    ensures { Reads ⊥ said result (alone (said command) words.entry) }
 {
-    let cut = next_word(line)?;
-    let value = read_narrow(cut.word)?;
-    Some(Number {
-        value,
-        rest: cut.rest,
-    })
-}
-
-// The command, if nothing follows it.
-fn ended(command: Command, rest: &[u8]) -> Result<Command, Fault>
-    ensures { Reads ⊥ said result (alone (said command) (words rest.now)) }
-{
-    match next_word(rest) {
+    match words.next() {
         None => Ok(command),
-        Some(_) => Err(Fault::Expected(Expected::End)),
+        Some(_) => Err(Expected::End.into()),
     }
 }
 
 // The ends of a range.
-fn read_unknown(rest: &[u8]) -> Result<Command, Fault>
-    ensures { Reads ⊥ said result (parsed_unknown (words rest.now)) }
+fn read_unknown(mut words: Words<'_>) -> Result<Command, Fault>
+    ensures { Reads ⊥ said result (parsed_unknown words.entry) }
 {
-    let Some(low) = next_number(rest) else {
-        return Err(Fault::Expected(Expected::Number));
-    };
-    let Some(high) = next_number(low.rest) else {
-        return Err(Fault::Expected(Expected::Number));
-    };
-    let command = Command::Unknown {
-        low: low.value,
-        high: high.value,
-    };
-    ended(command, high.rest)
+    let low = words.next().and_then(read_narrow).ok_or(Expected::Number)?;
+    let high = words.next().and_then(read_narrow).ok_or(Expected::Number)?;
+    ended(Command::Unknown { low, high }, words)
 }
 
 // The coefficients and the constant of a row.
-fn read_row(heap: Global, label: u8, line: &[u8]) -> Result<Command, Fault>
-    ensures { Reads (Unit {0}) said result (parsed_row label [] (words line.now)) }
+fn read_row(heap: Global, label: u8, mut words: Words<'_>) -> Result<Command, Fault>
+    ensures { Reads (Unit {0}) said result (parsed_row label [] words.entry) }
 {
     let mut coefficients = Vec::new(heap);
-    let Some(first) = next_word(line) else {
-        return Err(Fault::Expected(Expected::Number));
-    };
-    let mut word = first.word;
-    let mut rest = first.rest;
-    while let Some(next) = next_word(rest) {
-        let Some(coefficient) = read_narrow(word) else {
-            return Err(Fault::Expected(Expected::Number));
-        };
-        if coefficients.push(coefficient).is_err() {
-            return Err(Fault::Memory);
-        }
-        word = next.word;
-        rest = next.rest;
+    let mut last = words.next().ok_or(Expected::Number)?;
+    for word in words {
+        coefficients.push(read_narrow(last).ok_or(Expected::Number)?)?;
+        last = word;
     }
-    match read_wide(word) {
-        None => Err(Fault::Expected(Expected::Number)),
-        Some(constant) => Ok(Command::Add {
-            label,
-            coefficients,
-            constant,
-        }),
-    }
+    let constant = read_wide(last).ok_or(Expected::Number)?;
+    Ok(Command::Add {
+        label,
+        coefficients,
+        constant,
+    })
 }
 
 // A label, and the numbers of a row.
-fn read_add(heap: Global, rest: &[u8]) -> Result<Command, Fault>
-    ensures { Reads (Unit {0}) said result (parsed_add (words rest.now)) }
+fn read_add(heap: Global, mut words: Words<'_>) -> Result<Command, Fault>
+    ensures { Reads (Unit {0}) said result (parsed_add words.entry) }
 {
-    let Some(cut) = next_word(rest) else {
-        return Err(Fault::Expected(Expected::Label));
-    };
-    let Some(label) = read_label(cut.word) else {
-        return Err(Fault::Expected(Expected::Label));
-    };
-    read_row(heap, label, cut.rest)
+    let label = words.next().and_then(read_label).ok_or(Expected::Label)?;
+    read_row(heap, label, words)
 }
 
 // What follows a command's first word.
-fn read_as(heap: Global, keyword: Keyword, rest: &[u8]) -> Result<Command, Fault>
-    ensures { Reads (keyword ≡ Add) said result (parsed_as keyword (words rest.now)) }
+fn read_as(heap: Global, keyword: Keyword, words: Words<'_>) -> Result<Command, Fault>
+    ensures { Reads (keyword ≡ Add) said result (parsed_as keyword words.entry) }
 {
     match keyword {
-        Keyword::Draft => ended(Command::Draft, rest),
-        Keyword::Unknown => read_unknown(rest),
-        Keyword::Settle => ended(Command::Settle, rest),
-        Keyword::Add => read_add(heap, rest),
-        Keyword::Mark => ended(Command::Mark, rest),
-        Keyword::Return => ended(Command::Return, rest),
-        Keyword::Rows => ended(Command::Rows, rest),
+        Keyword::Draft => ended(Command::Draft, words),
+        Keyword::Unknown => read_unknown(words),
+        Keyword::Settle => ended(Command::Settle, words),
+        Keyword::Add => read_add(heap, words),
+        Keyword::Mark => ended(Command::Mark, words),
+        Keyword::Return => ended(Command::Return, words),
+        Keyword::Rows => ended(Command::Rows, words),
         Keyword::Later(later) => Ok(Command::Later(later)),
     }
-}
-
-fn is_comment(word: &[u8]) -> bool
-    ensures { result ≡ comment word.now }
-{
-    matches!(word, [b'#', ..])
 }
 
 // The command that a line gives; none for a line of blanks and for a comment, which begins with `#`.
 pub fn read_command(heap: Global, line: &[u8]) -> Result<Option<Command>, Fault>
     ensures { Reads (Adds (words line.now)) (option_map said) result (parsed line.now) }
 {
-    let Some(cut) = next_word(line) else {
-        return Ok(None);
-    };
-    if is_comment(cut.word) {
-        return Ok(None);
+    let mut words = Words::of(line);
+    match words.next() {
+        None | Some([b'#', ..]) => Ok(None),
+        Some(word) => {
+            let keyword = keyword_of(word).ok_or(Expected::Command)?;
+            Ok(Some(read_as(heap, keyword, words)?))
+        }
     }
-    let Some(keyword) = keyword_of(cut.word) else {
-        return Err(Fault::Expected(Expected::Command));
-    };
-    Ok(Some(read_as(heap, keyword, cut.rest)?))
 }

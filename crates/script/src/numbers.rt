@@ -1,25 +1,17 @@
 // Reading the numbers of a command. A number too large for its type is taken as the nearest one that the type holds.
-ghost use Rattle.script.specs.Numbers.{digit, digits_after, magnitude, below_zero, nearest_i64, nearest_i32, label_of};
+ghost use Rattle.script.specs.Numbers.{digits_after, magnitude, below_zero, nearest_i64, nearest_i32, label_of};
 ghost use Rattle.std.specs.Option.{option_map};
 ghost use Rattle.std.specs.Prelude.{◌≡◌, ◌-◌, ◌^◌, min, pos, Some};
 ghost use Rattle.std.specs.Int.{saturate_to_bits};
 
-// The greatest number of 64 bits with sign.
-const MOST: u64 = 9_223_372_036_854_775_807;
-
-fn is_digit(b: u8) -> bool
-    ensures { result ≡ digit b }
-{
-    b'0' <= b && b <= b'9'
-}
-
 // The number that digits write, 2^64 - 1 where it is larger.
+#[tactic(auto, using(crate::proofs::Saturation::cut_none, crate::proofs::Saturation::cut_more, crate::proofs::Saturation::cut_end))]
 fn read_digits(text: &[u8]) -> Option<u64>
     ensures { result ≡ option_map (λ n. min n (2 ^ 64 - 1)) (digits_after 0 text.now) }
 {
     let mut number: u64 = 0;
     for b in text {
-        if !is_digit(*b) {
+        if !b.is_ascii_digit() {
             return None;
         }
         number = number
@@ -34,8 +26,7 @@ fn read_magnitude(text: &[u8]) -> Option<u64>
     ensures { result ≡ option_map (λ n. min n (2 ^ 64 - 1)) (magnitude text.now) }
 {
     match text {
-        [] => None,
-        [b'0', _, ..] => None,
+        [] | [b'0', _, ..] => None,
         _ => read_digits(text),
     }
 }
@@ -44,17 +35,17 @@ fn read_magnitude(text: &[u8]) -> Option<u64>
 fn above_zero(n: u64) -> i64
     ensures { result ≡ saturate_to_bits 63 (pos n) }
 {
-    n.min(MOST) as i64
+    0_i64.saturating_add_unsigned(n)
 }
 
 // The number -n, or the least of 64 bits with sign; none at 0.
 fn under_zero(n: u64) -> Option<i64>
     ensures { result ≡ option_map (saturate_to_bits 63) (below_zero (Some n)) }
 {
-    if n == 0 {
-        return None;
+    match n {
+        0 => None,
+        _ => Some(0_i64.saturating_sub_unsigned(n)),
     }
-    Some(-1 - (n - 1).min(MOST) as i64)
 }
 
 // The number of 64 bits that a word writes, with or without a minus sign.
@@ -62,8 +53,8 @@ pub(crate) fn read_wide(text: &[u8]) -> Option<i64>
     ensures { result ≡ nearest_i64 text.now }
 {
     match text {
-        [b'-', digits @ ..] => under_zero(read_magnitude(digits)?),
-        _ => Some(above_zero(read_magnitude(text)?)),
+        [b'-', digits @ ..] => read_magnitude(digits).and_then(under_zero),
+        _ => read_magnitude(text).map(above_zero),
     }
 }
 
@@ -71,22 +62,19 @@ pub(crate) fn read_wide(text: &[u8]) -> Option<i64>
 fn shortened(n: i64) -> i32
     ensures { result ≡ saturate_to_bits 31 n }
 {
-    n.clamp(i64::from(i32::MIN), i64::from(i32::MAX)) as i32
+    n.clamp(i32::MIN.into(), i32::MAX.into()) as i32
 }
 
 // The number of 32 bits that a word writes.
 pub(crate) fn read_narrow(text: &[u8]) -> Option<i32>
     ensures { result ≡ nearest_i32 text.now }
 {
-    Some(shortened(read_wide(text)?))
+    read_wide(text).map(shortened)
 }
 
 // The label that a word writes, from 0 to 255.
 pub(crate) fn read_label(text: &[u8]) -> Option<u8>
     ensures { result ≡ label_of text.now }
 {
-    match read_wide(text)? {
-        n @ 0..=255 => Some(n as u8),
-        _ => None,
-    }
+    u8::try_from(read_wide(text)?).ok()
 }

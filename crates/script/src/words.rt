@@ -1,55 +1,50 @@
 // Cutting a line into words.
-ghost use Rattle.script.specs.Words.{blank, front, words};
-ghost use Rattle.std.specs.Prelude.{◌≡◌, ◌<◌, ◌≤◌, false, [], ◌∷◌, length, drop, MatchOption, slice_index};
+ghost use Rattle.script.specs.Words.{blank, words};
+ghost use Rattle.std.specs.Prelude.{◌≡◌, ℕ, List};
 
-// A line's first word, and what follows it.
-#[derive(Clone, Copy)]
-pub(crate) struct Cut<'a> {
-    pub(crate) word: &'a [u8],
-    pub(crate) rest: &'a [u8],
+use std::marker::Model;
+
+// The words of what is left of a line.
+#[derive(Drop)]
+pub(crate) struct Words<'a> {
+    rest: &'a [u8],
 }
 
-fn is_blank(b: u8) -> bool
-    ensures { result ≡ blank b }
-{
-    b == b' ' || b == b'\t' || b == b'\r'
+impl<'a> Model for Words<'a> {
+    ghost Value = { List (List ℕ) };
+
+    ghost view = { λ w. words w.rest.now };
 }
 
-// The place of the first byte that is no blank, or the line's length.
-fn word_start(line: &[u8]) -> usize
-    ensures within { result ≤ length line.now }
-    ensures words { words (drop result line.now) ≡ words line.now }
-    ensures stops { result < length line.now → blank (slice_index line.now result) ≡ false }
-{
-    for (i, b) in line.iter().enumerate() {
-        if !is_blank(*b) {
-            return i;
-        }
+impl<'a> Words<'a> {
+    pub(crate) fn of(line: &'a [u8]) -> Words<'a>
+        ensures { result ≡ words line.now }
+    {
+        Words { rest: line }
     }
-    line.len()
 }
 
-// How many bytes stand before the first blank.
-fn word_len(line: &[u8]) -> usize
-    ensures { result ≡ length (front line.now) }
+fn is_blank(byte: &u8) -> bool
+    ensures { result ≡ blank byte.now }
 {
-    for (i, b) in line.iter().enumerate() {
-        if is_blank(*b) {
-            return i;
-        }
-    }
-    line.len()
+    matches!(byte, b' ' | b'\t' | b'\r')
 }
 
-// The first word, if the line has one.
-pub(crate) fn next_word(line: &[u8]) -> Option<Cut<'_>>
-    ensures { MatchOption result (words line.now ≡ [])
-        (λ c. (words line.now ≡ c.word.now ∷ words c.rest.now) × (length c.rest.now < length line.now)) }
-{
-    let text = &line[word_start(line)..];
-    if text.is_empty() {
-        return None;
+impl<'a> Iterator for Words<'a> {
+    ghost use Rattle.std.specs.Iterator.{YieldsFirstRef, item_count};
+
+    type Item = &'a [u8];
+
+    ghost next_gives = { YieldsFirstRef (λ words. words) };
+
+    ghost remaining = { item_count (λ words. words) };
+
+    fn next(&mut self) -> Option<&'a [u8]> {
+        let start = self.rest.iter().position(|byte| !is_blank(byte))?;
+        let text = &self.rest[start..];
+        let end = text.iter().position(is_blank).unwrap_or(text.len());
+        let (word, rest) = text.split_at(end);
+        self.rest = rest;
+        Some(word)
     }
-    let (word, rest) = text.split_at(word_len(text));
-    Some(Cut { word, rest })
 }

@@ -8,7 +8,7 @@ use Rattle.std.specs.Fmt.{signed_decimal}
 use Rattle.std.specs.Str.Parse.{AllDigits}
 use Rattle.std.proofs.lemmas.Fmt.{decimal_is_IsNumeral, decimal_nonempty}
 use Rattle.std.proofs.lemmas.Bool.Decides.{nat_tests}
-use Rattle.script.specs.Answers.{spaced}
+use Rattle.calculus.specs.Wording.{spaced}
 use Rattle.script.specs.Commands.{add, parsed_row, parsed_add, some}
 use Rattle.script.specs.Laws.{RowReadsBack}
 use Rattle.script.specs.Numbers.{digit, nearest_i32, nearest_i64, as_label, label_of}

@@ -5,7 +5,7 @@ use Rattle.std.specs.List.{flat_map, AllByRecursion}
 use Rattle.std.specs.Int.{saturate_to_bits}
 use Rattle.std.specs.Fmt.{signed_decimal}
 use Rattle.calculus.specs.Arithmetic.{near}
-use Rattle.script.specs.Answers.{row_worded}
+use Rattle.calculus.specs.Wording.{row_worded}
 use Rattle.script.specs.Commands.{add, later, parsed}
 use Rattle.script.specs.Numbers.{numeral, nearest_i32, nearest_i64}
 use Rattle.script.specs.Words.{blank, words}

@@ -1,14 +1,13 @@
 // The wording of answers.
-ghost use Rattle.script.specs.Answers.{worded, row_worded};
-ghost use Rattle.std.specs.Prelude.{◌≡◌, ◌++◌, Some, string_bytes, OnOk};
+ghost use Rattle.script.specs.Answers.{worded};
+ghost use Rattle.std.specs.Prelude.{Some};
 
 use calculus::Refusal;
 use keywords::Later;
-use std::alloc::AllocError;
 use std::fmt;
 
 // What a command is answered.
-#[derive(Clone, Copy)]
+#[derive(Clone, Copy, Debug, PartialEq, Eq)]
 pub enum Answer {
     Draft,
     Unknown(usize),
@@ -32,28 +31,9 @@ impl fmt::Display for Answer {
             Answer::Added => f.write_str("added"),
             Answer::Marked => f.write_str("marked"),
             Answer::Returned => f.write_str("returned"),
-            Answer::Refused(refusal) => {
-                write!(f, "refused {} {}", refusal.number(), refusal.word())
-            }
+            Answer::Refused(refusal) => write!(f, "refused {refusal}"),
             Answer::Rows(rows) => write!(f, "rows {rows}"),
             Answer::NotOffered(later) => write!(f, "not offered yet: {later}"),
         }
     }
-}
-
-// Appends a row: its label, its coefficients and its constant.
-pub fn write_row(
-    out: &mut String,
-    label: u8,
-    coefficients: &[i32],
-    constant: i32,
-) -> Result<(), AllocError>
-    ensures { OnOk result (string_bytes out.new
-        ≡ string_bytes out.old ++ row_worded label coefficients.now constant) }
-{
-    write!(out, "{label}")?;
-    for coefficient in coefficients {
-        write!(out, " {coefficient}")?;
-    }
-    write!(out, " {constant}")
 }

@@ -8,7 +8,7 @@ mod laws;
 mod numbers;
 mod words;
 
-pub use answers::{Answer, write_row};
+pub use answers::Answer;
 pub use commands::{Command, read_command};
 pub use faults::{Expected, Fault};
 pub use laws::reading_stands;

@@ -1,41 +1,44 @@
 -- A text cut at its first newline.
-use Rattle.std.proofs.Common.{◌≡◌, ℕ, suc, ◌+◌, ◌<◌, ◌≤◌, Bool, true, false, cond, eqb, List, [], ◌∷◌, length, get_or, take, drop, refl, ap, ◌∙◌, arith, eq-eqb, ne_eqb}
-use Rattle.std.proofs.lemmas.List.{drop_more}
-use Rattle.day.specs.Lines.{lines, before_first, before_newline}
+use Rattle.std.proofs.Common.{◌≡◌, ℕ, zero, suc, ◌+◌, ◌-◌, ◌<◌, ◌≤◌, Bool, true, false, cond, eqb, List, [], ◌∷◌, length, get_or, take, drop, sym, ap, ◌∙◌, arith, add-one, eq-eqb, ne_eqb}
+use Rattle.std.proofs.lemmas.List.{take_rest}
+use Rattle.day.specs.Lines.{lines, before_first}
 
-abbrev Cuts : List ℕ → Type 0
-Cuts bs = lines bs ≡ take (length (before_newline bs)) bs ∷ lines (drop (suc (length (before_newline bs))) bs)
+-- no newline stands before a place
+abbrev pub IsFree : List ℕ → ℕ → Type 0
+IsFree bs end = (k : ℕ) → k < end → get_or bs k 0 ≡ 10 → ⊥
 
-cuts_by : (t : Bool) (b : ℕ) (bs : List ℕ) → (0 < length bs → Cuts bs) → eqb b 10 ≡ t → Cuts (b ∷ bs)
-cuts_by true b bs more e = simp e
-cuts_by false b [] more e = simp e
-cuts_by false b (c ∷ cs) more e =
-    let m = more (omega arith) in
-    simp e (ap (before_first b) m)
+-- the lines of a text with a newline: its first line, and those of what follows the newline
+cut_line : (bs : List ℕ) (end : ℕ) → end < length bs → IsFree bs end → get_or bs end 0 ≡ 10 → lines bs ≡ take end bs ∷ lines (drop (suc end) bs)
+cut_line [] end less free here = absurd (omega arith)
+cut_line (b ∷ bs) zero less free here = let e = eq-eqb b 10 here in simp e
+cut_line (b ∷ bs) (suc end) less free here =
+    let e = ne_eqb b 10 (free 0 (omega arith)) in
+    simp e (ap (before_first b) (cut_line bs end (omega arith) (λ k l. free (suc k) (omega arith)) here))
 
--- the lines of a text that is not empty: its first line, and those of what follows the newline
-pub cuts : (bs : List ℕ) → 0 < length bs → Cuts bs
-cuts [] h = absurd (omega arith)
-cuts (b ∷ bs) h = cuts_by (eqb b 10) b bs (cuts bs) refl
+-- the same, as the code takes what follows
+pub cut_at : (bs : List ℕ) (end : ℕ) → end < length bs → IsFree bs end → get_or bs end 0 ≡ 10 →
+    lines bs ≡ take end bs ∷ lines (take (length bs - (end + 1)) (drop (end + 1) bs))
+cut_at bs end less free here =
+    cut_line bs end less free here
+    ∙ ap (λ (rest : List ℕ). take end bs ∷ lines rest) (ap (λ (n : ℕ). drop n bs) (sym (add-one end)) ∙ sym (take_rest bs (end + 1)))
 
-within_by : (t : Bool) (b : ℕ) (bs : List ℕ) → length (before_newline bs) ≤ length bs → length (cond t [] (b ∷ before_newline bs)) ≤ suc (length bs)
-within_by true b bs h = omega arith
-within_by false b bs h = omega arith
+-- a text with no newline is one line
+pub last_line : (bs : List ℕ) → 0 < length bs → IsFree bs (length bs) → lines bs ≡ bs ∷ []
+last_line [] some free = absurd (omega arith)
+last_line (b ∷ []) some free = let e = ne_eqb b 10 (free 0 (omega arith)) in simp e
+last_line (b ∷ c ∷ bs) some free =
+    let e = ne_eqb b 10 (free 0 (omega arith)) in
+    simp e (ap (before_first b) (last_line (c ∷ bs) (omega arith) (λ k l. free (suc k) (omega arith))))
 
--- the first line is not longer than the text
-pub cut_within : (bs : List ℕ) → length (before_newline bs) ≤ length bs
-cut_within [] = omega arith
-cut_within (b ∷ bs) = within_by (eqb b 10) b bs (cut_within bs)
+few_by : (t : Bool) (b : ℕ) (bs : List ℕ) → length (lines bs) ≤ length bs → length (cond t ([] ∷ lines bs) (before_first b (lines bs))) ≤ suc (length bs)
+few_by true b bs h = omega arith
+few_by false b bs h = grown (lines bs) h
+  where
+    grown : (ls : List (List ℕ)) → length ls ≤ length bs → length (before_first b ls) ≤ suc (length bs)
+    grown [] k = omega arith
+    grown (l ∷ ls) k = omega arith
 
--- one byte more that is no newline
-pub newline_later : (bs : List ℕ) (i : ℕ) → i < length bs → (get_or bs i 0 ≡ 10 → ⊥) →
-    length (before_newline (drop i bs)) ≡ suc (length (before_newline (drop (i + 1) bs)))
-newline_later bs i h n =
-    let e = ne_eqb (get_or bs i 0) 10 n in
-    ap (λ (xs : List ℕ). length (before_newline xs)) (drop_more bs i 0 h) ∙ simp e
-
--- a newline here
-pub newline_here : (bs : List ℕ) (i : ℕ) → i < length bs → get_or bs i 0 ≡ 10 → length (before_newline (drop i bs)) ≡ 0
-newline_here bs i h n =
-    let e = eq-eqb (get_or bs i 0) 10 n in
-    ap (λ (xs : List ℕ). length (before_newline xs)) (drop_more bs i 0 h) ∙ simp e
+-- no more lines than bytes
+pub few_lines : (bs : List ℕ) → length (lines bs) ≤ length bs
+few_lines [] = omega arith
+few_lines (b ∷ bs) = few_by (eqb b 10) b bs (few_lines bs)

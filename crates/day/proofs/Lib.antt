@@ -1,4 +1,3 @@
 mod Cutting
-mod Printing
 mod Turning
 mod Staying

@@ -5,7 +5,8 @@ use Rattle.calculus.specs.Account.{Account, declare_answer, declared, settled, a
 use Rattle.calculus.specs.Rows.{Standing}
 use Rattle.calculus.specs.declared.ranges.Range.{Range}
 use Rattle.calculus.specs.declared.refusals.Refusal.{Refusal}
-use Rattle.script.specs.Answers.{worded, row_worded}
+use Rattle.calculus.specs.Wording.{row_worded}
+use Rattle.script.specs.Answers.{worded}
 use Rattle.script.specs.Commands.{Said, draft, unknown, settle, add, mark, return, rows, later, parsed}
 use Rattle.script.specs.declared.answers.Answer.{Answer}
 use Rattle.script.specs.declared.answers.Answer.TheVariants.{Draft, Unknown, Settled, Added, Marked, Returned, Refused, Rows, NotOffered}
@@ -13,21 +14,12 @@ use Rattle.script.specs.declared.faults.Expected.{Expected}
 use Rattle.script.specs.declared.faults.Expected.TheVariants.{Draft as ADraft, Ticket as ATicket}
 use Rattle.script.specs.declared.faults.Fault.{Fault}
 use Rattle.script.specs.declared.faults.Fault.TheVariants.{Memory, Expected as Awaited}
-use Rattle.ticket.specs.Meaning.{ranges_of, account}
-use Rattle.day.specs.declared.stages.Stage.{Stage}
-use Rattle.day.specs.declared.stages.Stage.TheVariants.{Nothing, Drafting, Settled as OnTicket}
 
 -- The state of a script: no draft yet, a draft with its ranges, or a settled ticket with its account.
 pub data State : Type 0 where
   nothing : State
   drafting : List Range → State
   ticketed : Account → State
-
--- what a stage of the program means
-abbrev pub state_of : Stage → State
-state_of Nothing = nothing
-state_of (Drafting d) = drafting (ranges_of d)
-state_of (OnTicket t) = ticketed (account t)
 
 -- ---- what a command is answered, and the state after it
 

@@ -10,8 +10,3 @@ before_first b (l ∷ ls) = (b ∷ l) ∷ ls
 abbrev pub lines : List ℕ → List (List ℕ)
 lines [] = []
 lines (b ∷ bs) = cond (b == 10) ([] ∷ lines bs) (before_first b (lines bs))
-
--- the bytes before the first newline
-abbrev pub before_newline : List ℕ → List ℕ
-before_newline [] = []
-before_newline (b ∷ bs) = cond (b == 10) [] (b ∷ before_newline bs)

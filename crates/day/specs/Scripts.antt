@@ -3,12 +3,19 @@ use Rattle.std.specs.Prelude.{◌≡◌, ℕ, List, ◌++◌, Some, None, Ok, Er
 use Rattle.script.specs.Faults.{expected_words}
 use Rattle.day.specs.Day.{Outcome, outcome, nothing}
 use Rattle.day.specs.Lines.{lines}
+use Rattle.script.specs.declared.faults.Fault.{Fault}
+use Rattle.script.specs.declared.faults.Fault.TheVariants.{Memory as NoMemory, Expected as Awaited}
 use Rattle.day.specs.declared.scripts.Stop.{Stop}
 use Rattle.day.specs.declared.scripts.Stop.TheVariants.{Memory, Line}
 
 -- the outcome of a script, from its first line and with no draft
 abbrev pub script_outcome : List ℕ → Outcome
 script_outcome script = outcome 1 nothing (lines script)
+
+-- what was wrong with line n, as why a script stopped there
+abbrev pub stop_by : ℕ → Fault → Stop
+stop_by n NoMemory = Memory
+stop_by n (Awaited e) = Line n e
 
 -- A script was run: its text was printed after what stood before, and it stopped where the outcome says, if it did.
 -- Where memory is wanting nothing is known.

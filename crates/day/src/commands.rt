@@ -1,116 +1,116 @@
 // The commands, done one at a time. A command out of place changes nothing.
-ghost use Rattle.day.specs.Day.{Done, state_of};
+ghost use Rattle.std.specs.Prelude.{◌≡◌};
+ghost use Rattle.day.specs.Day.{Done, numbered as numbered_by, said_so as said_by};
 ghost use Rattle.script.specs.Commands.{said, draft, unknown, settle, add, mark, return, rows};
 
-use crate::stages::Stage;
+use crate::stages::{Day, Stage};
+use calculus::Refusal;
 use script::{Answer, Command, Expected, Fault};
-use std::alloc::Global;
 use std::mem;
 use ticket::Draft;
 
-// A new draft, whatever stood before.
-fn begin(stage: &mut Stage, heap: Global) -> Result<Answer, Fault>
-    ensures { Done (state_of stage.old) draft result (state_of stage.new) }
+// An unknown's number, or the refusal, as an answer.
+fn numbered(number: Result<usize, Refusal>) -> Answer
+    ensures { result ≡ numbered_by number }
 {
-    match Draft::new(heap) {
-        Ok(draft) => {
-            *stage = Stage::Drafting(draft);
-            Ok(Answer::Draft)
+    number.map_or_else(Answer::Refused, Answer::Unknown)
+}
+
+// What is answered where a call was taken, or the refusal.
+fn said_so(done: Answer, taken: Result<(), Refusal>) -> Answer
+    ensures { result ≡ said_by done taken }
+{
+    taken.map_or_else(Answer::Refused, |()| done)
+}
+
+impl Day {
+    // A new draft, whatever stood before.
+    fn begin(&mut self) -> Result<Answer, Fault>
+        ensures { Done self.old draft result self.new }
+    {
+        self.stage = Stage::Drafting(Draft::new(self.heap)?);
+        Ok(Answer::Draft)
+    }
+
+    fn declare(&mut self, low: i32, high: i32) -> Result<Answer, Fault>
+        ensures { Done self.old (unknown low high) result self.new }
+    {
+        let Stage::Drafting(draft) = &mut self.stage else {
+            return Err(Expected::Draft.into());
+        };
+        Ok(numbered(draft.declare(low, high)))
+    }
+
+    fn settle(&mut self) -> Result<Answer, Fault>
+        ensures { Done self.old settle result self.new }
+    {
+        match mem::replace(&mut self.stage, Stage::Nothing) {
+            Stage::Drafting(draft) => {
+                let ticket = draft.settle();
+                let unknowns = ticket.rows().unknowns();
+                self.stage = Stage::Settled(ticket);
+                Ok(Answer::Settled(unknowns))
+            }
+            found => {
+                self.stage = found;
+                Err(Expected::Draft.into())
+            }
         }
-        Err(_) => Err(Fault::Memory),
     }
-}
 
-fn declare(stage: &mut Stage, low: i32, high: i32) -> Result<Answer, Fault>
-    ensures { Done (state_of stage.old) (unknown low high) result (state_of stage.new) }
-{
-    match stage {
-        Stage::Drafting(draft) => match draft.declare(low, high) {
-            Ok(unknown) => Ok(Answer::Unknown(unknown)),
-            Err(refusal) => Ok(Answer::Refused(refusal)),
-        },
-        _ => Err(Fault::Expected(Expected::Draft)),
+    fn add(&mut self, label: u8, coefficients: &[i32], constant: i64) -> Result<Answer, Fault>
+        ensures { Done self.old (add label coefficients.now constant) result self.new }
+    {
+        let Stage::Settled(ticket) = &mut self.stage else {
+            return Err(Expected::Ticket.into());
+        };
+        Ok(said_so(Answer::Added, ticket.add(label, coefficients, constant)))
     }
-}
 
-fn settle(stage: &mut Stage) -> Result<Answer, Fault>
-    ensures { Done (state_of stage.old) settle result (state_of stage.new) }
-{
-    match mem::replace(stage, Stage::Nothing) {
-        Stage::Drafting(draft) => {
-            let ticket = draft.settle();
-            let unknowns = ticket.rows().unknowns();
-            *stage = Stage::Settled(ticket);
-            Ok(Answer::Settled(unknowns))
+    fn mark(&mut self) -> Result<Answer, Fault>
+        ensures { Done self.old mark result self.new }
+    {
+        let Stage::Settled(ticket) = &mut self.stage else {
+            return Err(Expected::Ticket.into());
+        };
+        Ok(said_so(Answer::Marked, ticket.mark()))
+    }
+
+    fn return_to_mark(&mut self) -> Result<Answer, Fault>
+        ensures { Done self.old return result self.new }
+    {
+        let Stage::Settled(ticket) = &mut self.stage else {
+            return Err(Expected::Ticket.into());
+        };
+        Ok(said_so(Answer::Returned, ticket.return_to_mark()))
+    }
+
+    fn count_rows(&self) -> Result<Answer, Fault>
+        ensures { Done self.now rows result self.now }
+    {
+        let Stage::Settled(ticket) = &self.stage else {
+            return Err(Expected::Ticket.into());
+        };
+        Ok(Answer::Rows(ticket.rows().len()))
+    }
+
+    // Does what a command says, and gives its answer.
+    pub(crate) fn perform(&mut self, command: &Command) -> Result<Answer, Fault>
+        ensures { Done self.old (said command.now) result self.new }
+    {
+        match command {
+            Command::Draft => self.begin(),
+            Command::Unknown { low, high } => self.declare(*low, *high),
+            Command::Settle => self.settle(),
+            Command::Add {
+                label,
+                coefficients,
+                constant,
+            } => self.add(*label, coefficients, *constant),
+            Command::Mark => self.mark(),
+            Command::Return => self.return_to_mark(),
+            Command::Rows => self.count_rows(),
+            Command::Later(later) => Ok(Answer::NotOffered(*later)),
         }
-        found => {
-            *stage = found;
-            Err(Fault::Expected(Expected::Draft))
-        }
-    }
-}
-
-fn add(stage: &mut Stage, label: u8, coefficients: &[i32], constant: i64) -> Result<Answer, Fault>
-    ensures { Done (state_of stage.old) (add label coefficients.now constant) result (state_of stage.new) }
-{
-    match stage {
-        Stage::Settled(ticket) => match ticket.add(label, coefficients, constant) {
-            Ok(()) => Ok(Answer::Added),
-            Err(refusal) => Ok(Answer::Refused(refusal)),
-        },
-        _ => Err(Fault::Expected(Expected::Ticket)),
-    }
-}
-
-fn mark(stage: &mut Stage) -> Result<Answer, Fault>
-    ensures { Done (state_of stage.old) mark result (state_of stage.new) }
-{
-    match stage {
-        Stage::Settled(ticket) => match ticket.mark() {
-            Ok(()) => Ok(Answer::Marked),
-            Err(refusal) => Ok(Answer::Refused(refusal)),
-        },
-        _ => Err(Fault::Expected(Expected::Ticket)),
-    }
-}
-
-fn return_to_mark(stage: &mut Stage) -> Result<Answer, Fault>
-    ensures { Done (state_of stage.old) return result (state_of stage.new) }
-{
-    match stage {
-        Stage::Settled(ticket) => match ticket.return_to_mark() {
-            Ok(()) => Ok(Answer::Returned),
-            Err(refusal) => Ok(Answer::Refused(refusal)),
-        },
-        _ => Err(Fault::Expected(Expected::Ticket)),
-    }
-}
-
-fn count_rows(stage: &Stage) -> Result<Answer, Fault>
-    ensures { Done (state_of stage.now) rows result (state_of stage.now) }
-{
-    match stage {
-        Stage::Settled(ticket) => Ok(Answer::Rows(ticket.rows().len())),
-        _ => Err(Fault::Expected(Expected::Ticket)),
-    }
-}
-
-// Does what a command says, and gives its answer.
-pub(crate) fn perform(stage: &mut Stage, heap: Global, command: &Command) -> Result<Answer, Fault>
-    ensures { Done (state_of stage.old) (said command.now) result (state_of stage.new) }
-{
-    match command {
-        Command::Draft => begin(stage, heap),
-        Command::Unknown { low, high } => declare(stage, *low, *high),
-        Command::Settle => settle(stage),
-        Command::Add {
-            label,
-            coefficients,
-            constant,
-        } => add(stage, *label, coefficients, *constant),
-        Command::Mark => mark(stage),
-        Command::Return => return_to_mark(stage),
-        Command::Rows => count_rows(stage),
-        Command::Later(later) => Ok(Answer::NotOffered(*later)),
     }
 }

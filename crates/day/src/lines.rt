@@ -1,45 +1,48 @@
 // Cutting a script into lines.
-ghost use Rattle.std.specs.Prelude.{◌≡◌, ◌<◌, ◌≤◌, [], ◌∷◌, length, MatchOption};
-ghost use Rattle.day.specs.Lines.{before_newline, lines};
+ghost use Rattle.std.specs.Prelude.{◌≡◌, ℕ, List};
+ghost use Rattle.day.specs.Lines.{lines};
 
-// A script's first line without its newline, and what follows it.
-#[derive(Clone, Copy)]
-pub(crate) struct Cut<'a> {
-    pub(crate) line: &'a [u8],
-    pub(crate) rest: &'a [u8],
+use std::marker::Model;
+use std::mem;
+
+// The lines of what is left of a script, each without its newline.
+#[derive(Drop)]
+pub(crate) struct Lines<'a> {
+    rest: &'a [u8],
 }
 
-// How many bytes stand before the first newline.
-fn line_len(text: &[u8]) -> usize
-    ensures value { result ≡ length (before_newline text.now) }
-    ensures bound { result ≤ length text.now }
-{
-    for (i, b) in text.iter().enumerate() {
-        if *b == b'\n' {
-            return i;
+impl<'a> Model for Lines<'a> {
+    ghost Value = { List (List ℕ) };
+
+    ghost view = { λ l. lines l.rest.now };
+}
+
+impl<'a> Lines<'a> {
+    pub(crate) fn of(script: &'a [u8]) -> Lines<'a>
+        ensures { result ≡ lines script.now }
+    {
+        Lines { rest: script }
+    }
+}
+
+impl<'a> Iterator for Lines<'a> {
+    ghost use Rattle.std.specs.Iterator.{YieldsFirstRef, item_count};
+
+    type Item = &'a [u8];
+
+    ghost next_gives = { YieldsFirstRef (λ lines. lines) };
+
+    ghost remaining = { item_count (λ lines. lines) };
+
+    fn next(&mut self) -> Option<&'a [u8]> {
+        if self.rest.is_empty() {
+            return None;
         }
+        let Some(end) = self.rest.iter().position(|byte| *byte == b'\n') else {
+            return Some(mem::take(&mut self.rest));
+        };
+        let line = &self.rest[..end];
+        self.rest = &self.rest[end + 1..];
+        Some(line)
     }
-    text.len()
-}
-
-// The first line, if there is one.
-pub(crate) fn next_line(text: &[u8]) -> Option<Cut<'_>>
-    ensures { MatchOption result (lines text.now ≡ [])
-        (λ c. (lines text.now ≡ c.line.now ∷ lines c.rest.now) × (length c.rest.now < length text.now)) }
-{
-    if text.is_empty() {
-        return None;
-    }
-    let end = line_len(text);
-    let line = &text[0..end];
-    if end == text.len() {
-        return Some(Cut {
-            line,
-            rest: &text[end..],
-        });
-    }
-    Some(Cut {
-        line,
-        rest: &text[end + 1..],
-    })
 }

@@ -1,22 +1,18 @@
 // A whole script.
 ghost use Rattle.std.specs.Prelude.{◌≡◌, ◌++◌, Some, string_bytes, OnOk};
-ghost use Rattle.std.specs.List.{flat_map};
-ghost use Rattle.rows.specs.Store.{account_of, seen};
 ghost use Rattle.script.specs.Answers.{worded};
-ghost use Rattle.script.specs.Commands.{said, rows};
-ghost use Rattle.day.specs.Day.{Taken, due, line, listing, state_of, row_line, spoken, turn};
-ghost use Rattle.day.specs.Scripts.{Ran, script_outcome, stop_worded};
+ghost use Rattle.script.specs.Commands.{said};
+ghost use Rattle.day.specs.Day.{Taken, due, line, listing, spoken, turn};
+ghost use Rattle.day.specs.Scripts.{Ran, script_outcome, stop_by, stop_worded};
 
-use crate::commands::perform;
-use crate::lines::next_line;
-use crate::stages::Stage;
-use rows::{RowView, Rows};
-use script::{Answer, Command, Expected, Fault, read_command, write_row};
+use crate::lines::Lines;
+use crate::stages::{Day, Stage};
+use script::{Answer, Command, Expected, Fault, read_command};
 use std::alloc::{AllocError, Global};
 use std::fmt;
 
 // Why a script stopped before its end.
-#[derive(Clone, Copy)]
+#[derive(Clone, Copy, Debug, PartialEq, Eq)]
 pub enum Stop {
     Memory,
     // the line, from 1, and what was expected there
@@ -34,102 +30,51 @@ impl fmt::Display for Stop {
     }
 }
 
-// Ends a line of text.
-fn end_line(out: &mut String) -> Result<(), AllocError>
-    ensures { OnOk result (string_bytes out.new ≡ line (string_bytes out.old)) }
-{
-    out.push('\n')
-}
-
-// Appends the words of an answer.
-fn write_answer(out: &mut String, answer: Answer) -> Result<(), AllocError>
-    ensures { OnOk result (string_bytes out.new ≡ string_bytes out.old ++ worded answer) }
-{
-    match write!(out, "{answer}") {
-        Ok(()) => Ok(()),
-        Err(_) => Err(AllocError),
+impl Stop {
+    // What was wrong with a line of this number.
+    fn at(number: usize, fault: Fault) -> Stop
+        ensures { result ≡ stop_by number fault }
+    {
+        match fault {
+            Fault::Memory => Stop::Memory,
+            Fault::Expected(expected) => Stop::Line { number, expected },
+        }
     }
 }
 
-// Prints an answer.
-fn print_answer(out: &mut String, answer: Answer) -> Result<(), AllocError>
-    ensures { OnOk result (string_bytes out.new ≡ string_bytes out.old ++ line (worded answer)) }
-{
-    write_answer(out, answer)?;
-    end_line(out)?;
-    Ok(())
-}
-
-// Prints a standing row.
-fn print_row(out: &mut String, row: RowView<'_>) -> Result<(), AllocError>
-    ensures { OnOk result (string_bytes out.new ≡ string_bytes out.old ++ row_line (seen row.entry)) }
-{
-    write_row(out, row.label, row.coefficients, row.constant)?;
-    end_line(out)?;
-    Ok(())
-}
-
-// Prints the standing rows, one to a line.
-fn print_rows(out: &mut String, rows: &Rows) -> Result<(), AllocError>
-    ensures { OnOk result (string_bytes out.new ≡ string_bytes out.old ++ flat_map row_line (account_of rows.now).rows) }
-{
-    let mut place = 0;
-    while let Some(row) = rows.row(place) {
-        print_row(out, row)?;
-        place += 1;
+impl Day {
+    // Prints what a command lists after its answer: the standing rows, one to a line.
+    fn print_listing(&self, out: &mut String, command: &Command) -> Result<(), AllocError>
+        ensures { OnOk result (string_bytes out.new ≡ string_bytes out.old ++ listing self.now (said command.now)) }
+    {
+        if let (Command::Rows, Stage::Settled(ticket)) = (command, &self.stage) {
+            for row in ticket.rows().rows() {
+                writeln!(out, "{row}")?;
+            }
+        }
+        Ok(())
     }
-    Ok(())
-}
 
-// Prints what a command lists after its answer.
-fn print_listing(out: &mut String, stage: &Stage, command: &Command) -> Result<(), AllocError>
-    ensures { OnOk result (string_bytes out.new ≡ string_bytes out.old ++ listing (state_of stage.now) (said command.now)) }
-{
-    match (command, stage) {
-        (Command::Rows, Stage::Settled(ticket)) => print_rows(out, ticket.rows()),
-        _ => Ok(()),
+    // Does one command and prints its answer.
+    fn take_command(&mut self, out: &mut String, command: &Command) -> Result<(), Fault>
+        ensures { Taken (spoken (due self.old (said command.now)) self.old (said command.now))
+            (string_bytes out.old) result self.old self.new (string_bytes out.new) }
+    {
+        let answer = self.perform(command)?;
+        writeln!(out, "{answer}")?;
+        self.print_listing(out, command)?;
+        Ok(())
     }
-}
 
-// Prints a command's answer and what it lists.
-fn print_turn(
-    out: &mut String,
-    answer: Answer,
-    stage: &Stage,
-    command: &Command,
-) -> Result<(), AllocError>
-    ensures { OnOk result (string_bytes out.new ≡ string_bytes out.old ++ (line (worded answer) ++ listing (state_of stage.now) (said command.now))) }
-{
-    print_answer(out, answer)?;
-    print_listing(out, stage, command)?;
-    Ok(())
-}
-
-// Does one command and prints its answer.
-fn take_command(
-    out: &mut String,
-    stage: &mut Stage,
-    heap: Global,
-    command: &Command,
-) -> Result<(), Fault>
-    ensures { Taken (spoken (due (state_of stage.old) (said command.now)) (state_of stage.old) (said command.now))
-        (string_bytes out.old) result (state_of stage.old) (state_of stage.new) (string_bytes out.new) }
-{
-    let answer = perform(stage, heap, command)?;
-    let Ok(()) = print_turn(out, answer, stage, command) else {
-        return Err(Fault::Memory);
-    };
-    Ok(())
-}
-
-// Reads one line, does its command if it has one, and prints the answer.
-fn take_line(out: &mut String, stage: &mut Stage, heap: Global, bytes: &[u8]) -> Result<(), Fault>
-    ensures { Taken (turn (state_of stage.old) bytes.now)
-        (string_bytes out.old) result (state_of stage.old) (state_of stage.new) (string_bytes out.new) }
-{
-    match read_command(heap, bytes)? {
-        Some(command) => take_command(out, stage, heap, &command),
-        None => Ok(()),
+    // Reads one line, does its command if it has one, and prints the answer.
+    fn take_line(&mut self, out: &mut String, bytes: &[u8]) -> Result<(), Fault>
+        ensures { Taken (turn self.old bytes.now)
+            (string_bytes out.old) result self.old self.new (string_bytes out.new) }
+    {
+        match read_command(self.heap, bytes)? {
+            Some(command) => self.take_command(out, &command),
+            None => Ok(()),
+        }
     }
 }
 
@@ -137,18 +82,10 @@ fn take_line(out: &mut String, stage: &mut Stage, heap: Global, bytes: &[u8]) ->
 pub fn run_script(heap: Global, script: &[u8], out: &mut String) -> Result<(), Stop>
     ensures { Ran (script_outcome script.now) (string_bytes out.old) result (string_bytes out.new) }
 {
-    let mut stage = Stage::Nothing;
-    let mut number = 1;
-    let mut rest = script;
-    while let Some(cut) = next_line(rest) {
-        match take_line(out, &mut stage, heap, cut.line) {
-            Ok(()) => {
-                number += 1;
-                rest = cut.rest;
-            }
-            Err(Fault::Memory) => return Err(Stop::Memory),
-            Err(Fault::Expected(expected)) => return Err(Stop::Line { number, expected }),
-        }
+    let mut day = Day::new(heap);
+    for (before, bytes) in Lines::of(script).enumerate() {
+        day.take_line(out, bytes)
+            .map_err(|fault| Stop::at(before + 1, fault))?;
     }
     Ok(())
 }

@@ -1,24 +1,40 @@
-use Rattle.std.proofs.Common.{◌+◌, ◌<◌, ◌≤◌, length, string_bytes, arith}
-use Rattle.day.specs.Day.{state_of}
-use Rattle.day.specs.Lines.{lines}
+use Rattle.std.proofs.Common.{rules, arith, ◌≡◌, ◌+◌, ◌∷◌, ◌^◌, ◌<◌, Ok, length, refl, sym, ap, ◌∙◌, add-one, inl}
+use Rattle.day.proofs.Cutting.{few_lines}
 use Rattle.day.proofs.Turning.{text_on, stop_on}
 use Rattle.day.proofs.scripts.run_script.Goals as goal
 
-pub loop-cut-preserved : goal.loop-cut-preserved
-loop-cut-preserved c =
-    let cut = c.in-Some.ensures in
-    let taken = c.in-Ok.ensures in
-    let p = state_of c.loop-cut.stage in
-    let all = lines c.loop-cut.rest.now in
-    let ls = lines c.in-Some.cut.rest.now in
-    let line = c.in-Some.cut.line.now in
-    let q = state_of c.take_line.new.stage in
-    let inv = c.loop-cut.invariant in
-    let shorter : length c.in-Some.cut.rest.now < length c.loop-cut.rest.now = cut.1 in
-    let counted : c.loop-cut.number + length c.loop-cut.rest.now ≤ length c.args.script.now + 1 = inv.0 in (
+pub loop-before-init : goal.loop-before-init
+loop-before-init c =
+    let few = few_lines c.args.script.now in
+    let short : length c.args.script.now < 2 ^ 64 = search rules in
+    let made = c.enumerate-before-items.ensures in
+    rw (c.into_iter-before-iterator.ensures.into_iter_gives, made.source, made.count, c.of.ensures, c.new-day.ensures) (
+      (tt, tt, inl (omega arith)),
+      tt,
       omega arith,
-      (
-        text_on c.loop-cut.number p all ls line cut.0 taken.0 q (string_bytes c.loop-cut.out) _ _ taken.1 taken.2 inv.1.0,
-        stop_on c.loop-cut.number p all ls line cut.0 taken.0 q _ taken.1 inv.1.1,
-      ),
+      refl,
+      refl,
+    )
+
+pub loop-before-preserved : goal.loop-before-preserved
+loop-before-preserved c =
+    let (can, ends, counted, text, stop) = c.loop-before.invariant in
+    let taken : c.take_line.result ≡ Ok tt = search rules in
+    let cut : c.loop-before.before-iterator.iter ≡ c.in-Some.bytes.now ∷ c.next.new.self.iter = search rules in
+    let next : c.next.new.self.count ≡ c.loop-before.before-iterator.count + 1 = search rules in
+    let (own, spoke, printed) = (rw taken at c.take_line.ensures) in
+    let now = c.loop-before in
+    let n = now.before-iterator.count + 1 in
+    let all = now.before-iterator.iter in
+    let ls = c.next.new.self.iter in
+    let l = c.in-Some.bytes.now in
+    let q = c.take_line.new.self in
+    let short : length c.args.script.now < 2 ^ 64 = search rules in
+    let fewer : length all ≡ length ls + 1 = ap length cut ∙ sym (add-one (length ls)) in
+    rw next (
+      (tt, tt, inl (omega arith)),
+      tt,
+      omega arith,
+      text_on n now.day all ls l cut own q _ _ _ spoke printed text,
+      stop_on n now.day all ls l cut own q _ spoke stop,
     )

@@ -1,40 +1,25 @@
-// A case: a script, the answers it should print, and the message it should stop with, if any.
+// A case: a script, and what should come out of it.
 //
 // In a table, `= NAME` begins a case, `> LINE` is a line of its script, `>. LINE` one without a newline, `< LINE` a line
 // that is to be printed and `! TEXT` the message. `>*N` and `<*N` give the line N times, with the count for `@`.
-ghost use Rattle.std.specs.Prelude.{◌≡◌, true, string_bytes};
+ghost use Rattle.std.specs.Prelude.{◌≡◌, true, option_map, string_bytes};
 
-use anyhow::anyhow;
+use anyhow::bail;
 use day::run_script;
 use std::alloc::{AllocError, Global};
+
+// What a script printed, and the message it stopped with, if it did.
+#[derive(Drop, PartialEq, Eq)]
+pub(crate) struct Found {
+    pub(crate) answers: String,
+    pub(crate) message: Option<String>,
+}
 
 #[derive(Drop)]
 pub(crate) struct Case {
     name: String,
     script: String,
-    answers: String,
-    message: String,
-}
-
-// What a script printed, and the message it stopped with, empty where it ran to its end.
-#[derive(Drop)]
-pub(crate) struct Found {
-    answers: String,
-    message: String,
-}
-
-impl Found {
-    pub(crate) fn answers(&self) -> &str
-        ensures { result.now ≡ string_bytes self.now.answers }
-    {
-        self.answers.as_str()
-    }
-
-    pub(crate) fn message(&self) -> &str
-        ensures { result.now ≡ string_bytes self.now.message }
-    {
-        self.message.as_str()
-    }
+    due: Found,
 }
 
 // Appends the text with the digits for its `@`, if it has one.
@@ -50,7 +35,7 @@ fn push_counted(out: &mut String, text: &str, digits: &str) -> Result<(), AllocE
 // Appends what follows a mark: ` LINE`, `. LINE` or `*N LINE`.
 fn push_lines(heap: Global, out: &mut String, rest: &str) -> anyhow::Result<()> {
     let Some((how, text)) = rest.split_once(' ') else {
-        return Err(anyhow!("a line of a table has no text"));
+        bail!("a line of a table has no text");
     };
     if how == "." {
         out.push_str(text)?;
@@ -59,7 +44,7 @@ fn push_lines(heap: Global, out: &mut String, rest: &str) -> anyhow::Result<()> 
     let count = match how.strip_prefix('*') {
         Some(digits) => digits.parse::<u32>()?,
         None if how.is_empty() => 1,
-        None => return Err(anyhow!("a line of a table begins with no mark")),
+        None => bail!("a line of a table begins with no mark"),
     };
     for number in 0..count {
         let digits = number.to_string(heap)?;
@@ -70,13 +55,15 @@ fn push_lines(heap: Global, out: &mut String, rest: &str) -> anyhow::Result<()> 
 }
 
 impl Case {
-    pub(crate) fn new(heap: Global) -> Case {
-        Case {
-            name: String::new(heap),
+    pub(crate) fn new(heap: Global, name: &str) -> Result<Case, AllocError> {
+        Ok(Case {
+            name: String::from_str(heap, name)?,
             script: String::new(heap),
-            answers: String::new(heap),
-            message: String::new(heap),
-        }
+            due: Found {
+                answers: String::new(heap),
+                message: None,
+            },
+        })
     }
 
     pub(crate) fn name(&self) -> &str
@@ -85,22 +72,16 @@ impl Case {
         self.name.as_str()
     }
 
-    pub(crate) fn is_blank(&self) -> bool {
-        self.name.as_str().is_empty()
-    }
-
-    // One line of a table.
+    // One line of a table after the case's name.
     pub(crate) fn take(&mut self, heap: Global, line: &str) -> anyhow::Result<()> {
-        if let Some(name) = line.strip_prefix("= ") {
-            self.name.push_str(name)?;
-        } else if let Some(rest) = line.strip_prefix('>') {
+        if let Some(rest) = line.strip_prefix('>') {
             push_lines(heap, &mut self.script, rest)?;
         } else if let Some(rest) = line.strip_prefix('<') {
-            push_lines(heap, &mut self.answers, rest)?;
+            push_lines(heap, &mut self.due.answers, rest)?;
         } else if let Some(text) = line.strip_prefix("! ") {
-            self.message.push_str(text)?;
+            self.due.message = Some(String::from_str(heap, text)?);
         } else if !line.is_empty() && !line.starts_with('#') {
-            return Err(anyhow!("a line of a table begins with no mark"));
+            bail!("a line of a table begins with no mark");
         }
         Ok(())
     }
@@ -108,19 +89,18 @@ impl Case {
     pub(crate) fn run(&self, heap: Global) -> Result<Found, AllocError> {
         let mut answers = String::new(heap);
         let message = match run_script(heap, self.script.as_bytes(), &mut answers) {
-            Ok(()) => String::new(heap),
-            Err(stop) => format!(in heap; "{stop}")?,
+            Ok(()) => None,
+            Err(stop) => Some(stop.to_string(heap)?),
         };
         Ok(Found { answers, message })
     }
 
     // Whether the answers and the message are the ones that should come.
     pub(crate) fn accepts(&self, found: &Found) -> bool
-        ensures answers { result ≡ true → string_bytes self.now.answers ≡ string_bytes found.now.answers }
-        ensures message { result ≡ true → string_bytes self.now.message ≡ string_bytes found.now.message }
-        ensures both { string_bytes self.now.answers ≡ string_bytes found.now.answers → string_bytes self.now.message ≡ string_bytes found.now.message → result ≡ true }
+        ensures answers { result ≡ true → string_bytes self.now.due.answers ≡ string_bytes found.now.answers }
+        ensures message { result ≡ true → option_map string_bytes self.now.due.message ≡ option_map string_bytes found.now.message }
+        ensures both { string_bytes self.now.due.answers ≡ string_bytes found.now.answers → option_map string_bytes self.now.due.message ≡ option_map string_bytes found.now.message → result ≡ true }
     {
-        self.answers.as_str() == found.answers.as_str()
-            && self.message.as_str() == found.message.as_str()
+        self.due == *found
     }
 }

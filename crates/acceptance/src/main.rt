@@ -6,7 +6,7 @@ ghost use Rattle.std.specs.Prelude.{◌≡◌, ◌<◌, ◌≤◌, false};
 mod cases;
 mod questions;
 
-use anyhow::anyhow;
+use anyhow::ensure;
 use cases::Case;
 use questions::answers_hold;
 use std::io::Read;
@@ -33,16 +33,16 @@ impl Tally {
 
 // Runs one case, and says what came out where it is wrong.
 fn judge(rt: &HostRuntime, tally: &mut Tally, case: &Case) -> anyhow::Result<()> {
-    if case.is_blank() {
-        return Ok(());
-    }
     let found = case.run(rt.alloc())?;
     let right = case.accepts(&found);
     tally.note(right);
     if !right {
         let name = case.name();
-        let answers = found.answers();
-        let message = found.message();
+        let answers = found.answers.as_str();
+        let message = found
+            .message
+            .as_ref()
+            .map_or("", |message| message.as_str());
         println!(rt; "wrong: {name}\n{answers}! {message}")?;
     }
     Ok(())
@@ -50,15 +50,20 @@ fn judge(rt: &HostRuntime, tally: &mut Tally, case: &Case) -> anyhow::Result<()>
 
 // Runs the cases of a table, each from a line `= NAME` to the next.
 fn run_table(rt: &HostRuntime, tally: &mut Tally, table: &str) -> anyhow::Result<()> {
-    let mut case = Case::new(rt.alloc());
+    let mut begun: Option<Case> = None;
     for line in table.lines() {
-        if line.starts_with("= ") {
-            judge(rt, tally, &case)?;
-            case = Case::new(rt.alloc());
+        if let Some(name) = line.strip_prefix("= ") {
+            if let Some(case) = begun.replace(Case::new(rt.alloc(), name)?) {
+                judge(rt, tally, &case)?;
+            }
+        } else if let Some(case) = &mut begun {
+            case.take(rt.alloc(), line)?;
         }
-        case.take(rt.alloc(), line)?;
     }
-    judge(rt, tally, &case)
+    match &begun {
+        Some(case) => judge(rt, tally, case),
+        None => Ok(()),
+    }
 }
 
 // Runs the table of standard input, and the questions that no script asks.
@@ -68,12 +73,9 @@ fn run(rt: &HostRuntime) -> anyhow::Result<()> {
     let mut tally = Tally { run: 0, wrong: 0 };
     run_table(rt, &mut tally, table.as_str())?;
     tally.note(answers_hold(rt.alloc())?);
-    let run = tally.run;
-    let wrong = tally.wrong;
+    let Tally { run, wrong } = tally;
     println!(rt; "{run} cases, {wrong} wrong")?;
-    if wrong > 0 {
-        return Err(anyhow!("some cases came out wrong"));
-    }
+    ensure!(wrong == 0, "some cases came out wrong");
     Ok(())
 }
 

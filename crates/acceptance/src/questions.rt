@@ -17,38 +17,31 @@ fn sample(heap: Global) -> Result<Ticket, AllocError> {
     Ok(ticket)
 }
 
-fn has_range(ticket: &Ticket, unknown: usize, low: i32, high: i32) -> bool {
-    match ticket.rows().range(unknown) {
-        Some(range) => range == Range { low, high },
-        None => false,
-    }
-}
-
 fn has_row(ticket: &Ticket, place: usize, label: u8, coefficients: &[i32], constant: i32) -> bool {
-    match ticket.rows().row(place) {
-        Some(row) => row.label == label
-            && row.coefficients == coefficients
-            && row.constant == constant,
-        None => false,
-    }
+    ticket.rows().row(place).is_some_and(|row| {
+        row.label() == label && row.coefficients() == coefficients && row.constant() == constant
+    })
 }
 
 // Whether each question is answered as it should be.
 pub(crate) fn answers_hold(heap: Global) -> Result<bool, AllocError> {
     let mut ticket = sample(heap)?;
-    let counts = ticket.rows().unknowns() == 2
-        && ticket.rows().len() == 3
-        && ticket.rows().marks() == 2;
-    let ranges = has_range(&ticket, 0, -3, 7)
-        && has_range(&ticket, 1, 1_048_576, 1_048_576)
-        && ticket.rows().range(2).is_none();
-    let rows = has_row(&ticket, 0, 5, &[1, -2], 3)
+    let rows = ticket.rows();
+    let counts = rows.unknowns() == 2 && rows.len() == 3 && rows.marks() == 2;
+    let ranges = rows.range(0) == Some(Range { low: -3, high: 7 })
+        && rows.range(1)
+            == Some(Range {
+                low: 1_048_576,
+                high: 1_048_576,
+            })
+        && rows.range(2).is_none();
+    let standing = has_row(&ticket, 0, 5, &[1, -2], 3)
         && has_row(&ticket, 1, 255, &[32_768, -32_768], -1_073_741_824)
         && has_row(&ticket, 2, 1, &[0, 0], 9)
-        && ticket.rows().row(3).is_none();
+        && ticket.rows().row(3).is_none()
+        && ticket.rows().rows().len() == 3;
     let _ = ticket.return_to_mark();
-    let after = ticket.rows().len() == 2
-        && ticket.rows().marks() == 1
-        && ticket.rows().row(2).is_none();
-    Ok(counts && ranges && rows && after)
+    let rows = ticket.rows();
+    let after = rows.len() == 2 && rows.marks() == 1 && rows.row(2).is_none();
+    Ok(counts && ranges && standing && after)
 }

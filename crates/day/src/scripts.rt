@@ -9,6 +9,7 @@ use crate::lines::Lines;
 use crate::stages::{Day, Stage};
 use script::{Answer, Command, Expected, Fault, read_command};
 use std::alloc::{AllocError, Global};
+use std::error::Error;
 use std::fmt;
 
 // Why a script stopped before its end.
@@ -29,6 +30,8 @@ impl fmt::Display for Stop {
         }
     }
 }
+
+impl Error for Stop {}
 
 impl Stop {
     // What was wrong with a line of this number.

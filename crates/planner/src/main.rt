@@ -9,16 +9,13 @@ use std::{env, fs};
 
 // The file that the first argument names, or standard input where there is none.
 fn read_script(rt: &HostRuntime) -> anyhow::Result<Vec<u8>> {
-    let mut args = env::args(rt)?;
-    let _program = args.next();
-    let Some(path) = args.next() else {
-        let mut script = Vec::new(rt.alloc());
-        let _ = rt.stdin().read_to_end(&mut script)?;
-        return Ok(script);
-    };
-    match fs::read(rt, path.as_str()) {
-        Ok(script) => Ok(script),
-        Err(error) => Err(anyhow!(format!(in rt.alloc(); "{path}: {error}")?)),
+    match env::args(rt)?.nth(1) {
+        Some(path) => fs::read(rt, path.as_str()).map_err(|error| anyhow!("{path}: {error}")),
+        None => {
+            let mut script = Vec::new(rt.alloc());
+            rt.stdin().read_to_end(&mut script)?;
+            Ok(script)
+        }
     }
 }
 
@@ -28,10 +25,7 @@ fn run(rt: &HostRuntime) -> anyhow::Result<()> {
     let mut answers = String::new(rt.alloc());
     let ended = run_script(rt.alloc(), script.as_slice(), &mut answers);
     print!(rt; "{answers}")?;
-    match ended {
-        Ok(()) => Ok(()),
-        Err(stop) => Err(anyhow!(format!(in rt.alloc(); "{stop}")?)),
-    }
+    Ok(ended?)
 }
 
 fn main(rt: HostRuntime) -> anyhow::Result<ExitCode> {

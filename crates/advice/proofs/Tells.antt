@@ -24,8 +24,3 @@ chosen_open o lows highs (Some (x, s)) h e =
     let long = chosen_long o lows highs (x, s) (sym e) in
     let r = (choice_open o lows highs h long.0 long.1).0 x s (sym e) in
     (subst (λ (m : ℕ). x < m) (sym long.0) r.0, r.1)
-
--- telling an adviser a choice keeps the number of unknowns
-pub told_long : (a b : Advice) (r : Option (ℕ × Side)) → Advises a → b ≡ told_choice a r → advised b ≡ advised a
-told_long a b None h e = ap (λ (d : Advice). advised d) e
-told_long a b (Some p) h e = ap (λ (d : Advice). advised d) e ∙ (told_like a p.0 h).same

@@ -4,7 +4,7 @@ ghost use Rattle.calculus.specs.Checking.{kind_of};
 ghost use Rattle.calculus.specs.Logs.{fields_of};
 
 // The five kinds of line, each with what it is made from.
-#[derive(Clone, Copy)]
+#[derive(Clone, Copy, Debug, PartialEq, Eq)]
 pub enum Kind {
     Low {
         unknown: u16,
@@ -28,7 +28,7 @@ pub enum Kind {
 }
 
 // The fields of a line as a log holds them, whatever the kind's byte.
-#[derive(Clone, Copy)]
+#[derive(Clone, Copy, Debug, Default, PartialEq, Eq)]
 pub struct Fields {
     pub kind: u8,
     pub i: u16,

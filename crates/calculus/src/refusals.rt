@@ -3,7 +3,7 @@ ghost use Rattle.calculus.specs.Refusals.{listed};
 ghost use Rattle.std.specs.Prelude.{◌≡◌};
 
 // Why a call was refused.
-#[derive(Clone, Copy)]
+#[derive(Clone, Copy, Debug, PartialEq, Eq)]
 pub enum Refusal {
     Shape = 1,
     Range = 2,

@@ -1,5 +1,5 @@
 // One of the two ends of a range.
-#[derive(Clone, Copy, PartialEq, Eq)]
+#[derive(Clone, Copy, Debug, PartialEq, Eq)]
 pub enum Side {
     Low,
     High,

@@ -1,13 +1,9 @@
 -- Unknowns in a sequence: what stands where, and moving to the front.
-use Rattle.std.proofs.Common.{◌≡◌, ℕ, zero, suc, ◌+◌, ◌<◌, ◌≤◌, Bool, true, false, cond, eqb, ltb, List, [], ◌∷◌, ◌++◌, length, get_or, ℤ, Some, None, sym, refl, ap, ◌∙◌, subst, ⊎_elim, arith}
+use Rattle.std.proofs.Common.{◌≡◌, ℕ, zero, suc, ◌+◌, ◌<◌, Bool, true, false, cond, eqb, ltb, List, [], ◌∷◌, ◌++◌, length, get_or, sym, refl, ap, ◌∙◌, subst, arith}
 use Rattle.std.specs.List.{range_with_len, remove}
-use Rattle.std.proofs.lemmas.List.{length-map, map-append}
-use Rattle.std.proofs.lemmas.Bool.{cases_eq}
 use Rattle.std.proofs.lemmas.Bool.Decides.{nat_tests}
-use Rattle.calculus.specs.Advice.{Order, Advice, named, Orderly, Advises, open_or, first_open, choice, told_by, told}
+use Rattle.calculus.specs.Advice.{Order, Advice, named, Orderly, Advises, told_by, told}
 use Rattle.calculus.specs.Advice.{naming, others, to_front, blaming}
-use Rattle.calculus.specs.Tables.{table}
-use Rattle.calculus.specs.declared.sides.Side.TheVariants.{Low}
 use Rattle.calculus.proofs.Advising.{three_advise, told_like}
 use Rattle.advice.specs.Names.{on_low, lows_of, blaming_by}
 use Rattle.advice.proofs.Opens.{by_number}

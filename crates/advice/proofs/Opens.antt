@@ -1,17 +1,14 @@
 -- The first of a sequence of unknowns that is not fixed, and the choice that it makes.
-use Rattle.std.proofs.Common.{◌≡◌, ℕ, ◌+◌, zero, suc, Bool, true, false, not, cond, ◌&&◌, eqb, List, [], ◌∷◌, ◌++◌, map, length, ℤ, Some, None, Option, sym, refl, ap, ◌∙◌, add-one, arith}
+use Rattle.std.proofs.Common.{◌≡◌, ℕ, zero, suc, Bool, true, false, not, cond, ◌&&◌, eqb, List, [], ◌∷◌, ◌++◌, map, length, ℤ, Some, None, Option, sym, refl, ap, ◌∙◌, add-one, arith}
 use Rattle.std.specs.List.{find, range_with_len}
 use Rattle.std.specs.Option.{option_map}
-use Rattle.std.proofs.lemmas.List.{length-map, map-append}
-use Rattle.std.proofs.lemmas.List.FromFn.{length-range_with_len, map-range_with_len_more}
-use Rattle.std.proofs.lemmas.Bool.Decides.{nat_tests}
+use Rattle.std.proofs.lemmas.List.{length-map}
+use Rattle.std.proofs.lemmas.List.FromFn.{map-range_with_len_more}
 use Rattle.calculus.specs.Advice.{Order, advised, steady, open_or, first_open, only_if, choice}
 use Rattle.calculus.proofs.Advising.{three_advised}
 use Rattle.calculus.specs.Arithmetic.{same_number}
 use Rattle.calculus.specs.Rows.{coef}
 use Rattle.calculus.specs.Tables.{table}
-use Rattle.calculus.specs.declared.sides.Side.{Side}
-use Rattle.calculus.specs.declared.sides.Side.TheVariants.{Low}
 use Rattle.advice.specs.Names.{on_low, lows_of}
 
 -- low and high of x are equal

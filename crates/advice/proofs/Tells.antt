@@ -1,10 +1,10 @@
 -- What follows of a choice of any adviser that keeps to what an adviser is.
-use Rattle.std.proofs.Common.{◌≡◌, ℕ, ◌<◌, Bool, true, false, ◌&&◌, eqb, List, length, ℤ, Some, None, Option, sym, refl, ap, ◌∙◌, subst, arith}
+use Rattle.std.proofs.Common.{◌≡◌, ℕ, ◌<◌, Bool, true, false, ◌&&◌, eqb, List, length, ℤ, Some, None, Option, sym, refl, subst, arith}
 use Rattle.std.proofs.lemmas.Bool.Decides.{nat_tests}
-use Rattle.calculus.specs.Advice.{Order, Advice, advised, Orderly, Advises, first_open, only_if, choice}
+use Rattle.calculus.specs.Advice.{Order, Orderly, first_open, only_if, choice}
 use Rattle.calculus.specs.declared.sides.Side.{Side}
-use Rattle.calculus.proofs.Advising.{choice_open, told_like}
-use Rattle.advice.specs.Telling.{told_choice, Open}
+use Rattle.calculus.proofs.Advising.{choice_open}
+use Rattle.advice.specs.Telling.{Open}
 
 -- where there is a choice, the lists are as long as the order
 chosen_long : (o : Order) (lows highs : List ℤ) (p : ℕ × Side) → choice o lows highs ≡ Some p →

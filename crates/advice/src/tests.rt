@@ -26,13 +26,12 @@ fn ends<'a>(lows: &'a [i32], highs: &'a [i32]) -> Ends<'a> {
 
 // What an adviser for three unknowns chooses at first, and after it is told 2, 2 again, 1, and 3, which is none of them.
 fn chooses<A: Adviser>(rt: &impl Abort, adviser: &mut A, side: Side, firsts: [usize; 5]) {
-    let [first, rest @ ..] = firsts;
-    assert_eq!(rt; adviser.ask(ends(&LOWS, &HIGHS)), Some((first, side)));
-    for (unknown, next) in [2, 2, 1, 3].into_iter().zip(rest) {
-        adviser.told(unknown);
+    assert_eq!(rt; adviser.ask(ends(&LOWS, &HIGHS)), Some((firsts[0], side)));
+    for (unknown, next) in [2, 2, 1, 3].iter().zip(&firsts[1..]) {
+        adviser.told(*unknown);
         assert_eq!(rt;
             adviser.ask(ends(&LOWS, &HIGHS)),
-            Some((next, side)),
+            Some((*next, side)),
             "told {unknown}"
         );
     }
@@ -69,7 +68,10 @@ fn blames_the_last(heap: Global) -> Result<Option<(usize, Side)>, Unmade>
     let inner = Blaming::new(heap, 3)?;
     let mut adviser = Turned::over(inner);
     adviser.told(2);
-    Ok(adviser.ask(ends(&LOWS, &HIGHS)))
+    Ok(adviser.ask(Ends {
+        lows: &LOWS,
+        highs: &HIGHS,
+    }))
 }
 
 #[test]
@@ -98,7 +100,12 @@ fn blaming_moves(rt: HostRuntime) -> Result<(), Fail> {
         [0, 2, 2, 1, 1],
     );
     passes(&rt, &mut Blaming::new(heap, 3)?, Side::Low, 2);
-    passes(&rt, &mut Turned::over(Blaming::new(heap, 3)?), Side::High, 2);
+    passes(
+        &rt,
+        &mut Turned::over(Blaming::new(heap, 3)?),
+        Side::High,
+        2,
+    );
     declines(&rt, &mut Turned::over(Blaming::new(heap, 3)?));
     assert_eq!(rt; blames_the_last(heap)?, Some((2, Side::High)));
     Ok(())
@@ -156,10 +163,7 @@ fn sizes(rt: HostRuntime) -> Result<(), Fail> {
     );
     let mut most = Blaming::new(rt.alloc(), 24)?;
     most.told(23);
-    assert_eq!(rt;
-        most.ask(ends(&[0; 24], &[1; 24])),
-        Some((23, Side::Low))
-    );
+    assert_eq!(rt; most.ask(ends(&[0; 24], &[1; 24])), Some((23, Side::Low)));
     assert_eq!(rt; Steady::new(24)?.unknowns(), 24);
     Ok(())
 }

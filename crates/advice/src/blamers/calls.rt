@@ -27,6 +27,7 @@ impl Adviser for Blaming {
             .map(|unknown| (*unknown, Side::Low))
     }
 
+    #[tactic(auto, using(crate::proofs::Fronts::told_front, crate::proofs::Fronts::told_nowhere, std::proofs::lemmas::List::with_items_is))]
     fn told(&mut self, unknown: usize) {
         if let Some(place) = place_of(&self.names, unknown) {
             move_to_front(&mut self.names, place);

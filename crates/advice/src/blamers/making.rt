@@ -9,6 +9,7 @@ use std::alloc::Global;
 
 impl Blaming {
     // A blaming adviser for so many unknowns; more than a ticket may have are refused, and else memory may be wanting.
+    #[tactic(auto, using(crate::proofs::Fronts::at_first))]
     pub fn new(heap: Global, unknowns: usize) -> Result<Blaming, Unmade>
         ensures { Made unknowns result }
     {

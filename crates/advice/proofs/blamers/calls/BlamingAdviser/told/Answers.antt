@@ -1,6 +1,6 @@
 use Rattle.std.proofs.Common.{vec_items, ◌∙◌, rules}
 use Rattle.std.proofs.lemmas.List.{with_items_is}
-use Rattle.advice.proofs.Fronts.{told_front, front_orderly, told_nowhere}
+use Rattle.advice.proofs.Fronts.{front_orderly}
 use Rattle.advice.proofs.blamers.calls.BlamingAdviser.told.Goals as goal
 
 pub invariant_of-self : goal.invariant_of-self
@@ -10,13 +10,3 @@ invariant_of-self c =
       orderly = front_orderly (vec_items v) _ c.in-Some.place c.args.unknown c.args.self.now.orderly (search rules)
           (with_items_is v c.move_to_front.new.names (search rules) ∙ search rules);
     }
-
-pub returns-in-Some : goal.returns-in-Some
-returns-in-Some c =
-    let v = c.args.self.now.names in
-    told_front (vec_items v) _ c.in-Some.place c.args.unknown c.args.self.now.orderly (search rules)
-    (with_items_is v c.move_to_front.new.names (search rules) ∙ search rules)
-
-pub returns-in_default : goal.returns-in_default
-returns-in_default c =
-    told_nowhere (vec_items c.args.self.now.names) c.args.unknown c.args.self.now.orderly (search rules)

@@ -1,5 +1,5 @@
 // A limit over any log.
-ghost use Rattle.std.specs.Prelude.{◌≡◌, min};
+ghost use Rattle.std.specs.Prelude.{◌≡◌};
 ghost use Rattle.cutlog.specs.Quotas.{limited};
 ghost use Rattle.cutlog.specs.Kept.{limited_keeps};
 
@@ -30,13 +30,6 @@ impl<L: Log> Quota<L> {
         let Quota { inner, limit: _ } = self;
         inner
     }
-
-    // For how many lines there is room, by the limit and by the log below.
-    fn room(&self) -> usize
-        ensures { result ≡ min self.now.limit (L.Log.book self.now.inner).capacity }
-    {
-        self.limit.min(self.inner.capacity())
-    }
 }
 
 impl<L: Log> Log for Quota<L> {
@@ -49,7 +42,7 @@ impl<L: Log> Log for Quota<L> {
     }
 
     fn capacity(&self) -> usize {
-        self.room()
+        self.limit.min(self.inner.capacity())
     }
 
     fn count(&self) -> usize {
@@ -64,7 +57,7 @@ impl<L: Log> Log for Quota<L> {
         if !is_shaped(row, self.inner.unknowns()) {
             return Err(Refusal::Shape);
         }
-        if self.inner.count() >= self.room() {
+        if self.inner.count() >= self.capacity() {
             return Err(Refusal::Log);
         }
         self.inner.add(fields, row)

@@ -5,5 +5,5 @@ ghost use Rattle.std.specs.Prelude.{◌≡◌, suc, length, ◌==◌};
 pub(crate) fn is_shaped(row: &[i32], unknowns: usize) -> bool
     ensures { result ≡ (length row.now == suc unknowns) }
 {
-    row.len() > unknowns && row.len() - 1 == unknowns
+    row.len().checked_sub(1) == Some(unknowns)
 }

@@ -2,7 +2,7 @@ use Rattle.std.proofs.Common.{◌<◌, ◌≢◌, length, pos, ◌∙◌, arith,
 use Rattle.std.proofs.lemmas.Int.{to_z-of_z}
 use Rattle.calculus.specs.Logs.{entries, line_row}
 use Rattle.calculus.specs.Rows.{coef}
-use Rattle.cutlog.specs.Held.{table_of}
+use Rattle.cutlog.proofs.Held.{table_of}
 use Rattle.cutlog.proofs.lines.read_row.Goals as goal
 
 pub loop-e-preserved : goal.loop-e-preserved

@@ -27,7 +27,7 @@ impl<L: Log> Quota<L> {
     pub fn into_inner(self) -> L
         ensures { result ≡ self.inner }
     {
-        let Quota { inner, limit: _ } = self;
+        let Quota { inner, .. } = self;
         inner
     }
 }

@@ -37,6 +37,7 @@ impl Log for Numbers {
     }
 
     // Writes the numbers of the new line, and no other.
+    #[tactic(auto, using(crate::specs::Kept::lines_long))]
     fn add(&mut self, fields: Fields, row: &[i32]) -> Result<usize, Refusal>
         ensures answer { result ≡ append_answer (book_of self.old) row.now }
         ensures book { book_of self.new ≡ appended (book_of self.old) fields row.now }

@@ -45,7 +45,7 @@ pub(super) fn entry_of(row: &[i64], place: usize) -> i32
         .unwrap_or(0)
 }
 
-// Writes the numbers of a row. By place and not zipped: what is written through a zipped `iter_mut` is not known to its proof.
+// Writes the numbers of a row. By place: zipped with the row was tried, and a zipped loop leaves its invariant no name for what it wrote.
 fn write_row(cells: &mut [i64], row: &[i32])
     requires { length cells.old ≡ length row.now }
     ensures cells { cells.new ≡ row.now }

@@ -9,7 +9,7 @@ use super::steadies::Steady;
 use super::turners::Turned;
 use calculus::Side;
 
-// One of the four, chosen when the program runs; an enum, since a dyn adviser may not be handed out, and matches, since each holds its own type.
+// One of the four, chosen when the program runs: an enum with matches, since a dyn value may not be handed out.
 #[derive(Drop)]
 pub enum AnyAdviser {
     Steady(Steady),

@@ -3,7 +3,7 @@ use Rattle.std.specs.Option.{option_map}
 use Rattle.std.proofs.lemmas.Iterator.{YieldsList-from_slice}
 use Rattle.std.proofs.lemmas.Iterator.Search.{find_from_yields_List}
 use Rattle.advice.specs.Names.{on_low}
-use Rattle.advice.proofs.Opens.{fixed, choice_first}
+use Rattle.advice.proofs.Opens.{fixed, first, choice_first}
 use Rattle.advice.proofs.blamers.calls.BlamingAdviser.ask.Goals as goal
 
 pub returns : goal.returns
@@ -12,8 +12,7 @@ returns c =
     let lows = c.args.ends.lows.now in
     let highs = c.args.ends.highs.now in
     let low : c.map.result ≡ option_map (λ x. on_low x.now) c.find.result = search rules in
-    low
-    ∙ choice_first (λ x. x.now) c.find.result (vec_items v) lows highs c.len.result
-    (find_from_yields_List (λ x. not (fixed lows highs x)) _ _ c.find.result c.find.ensures.ran (YieldsList-from_slice (vec_items v) cc)
-    (λ x b q k. search (rules, tests)))
-    (c.len.ensures ∙ v.ok.0) c.if-not-have_length.ensures
+    let found : option_map (λ x. x.now) c.find.result ≡ first lows highs (vec_items v) =
+    find_from_yields_List (λ x. not (fixed lows highs x)) _ _ c.find.result c.find.ensures.ran (YieldsList-from_slice (vec_items v) cc)
+    (λ x b q k. search (rules, tests)) in
+    low ∙ choice_first (λ x. x.now) c.find.result (vec_items v) lows highs c.len.result found (c.len.ensures ∙ v.ok.0) c.if-not-have_length.ensures

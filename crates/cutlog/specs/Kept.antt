@@ -11,9 +11,11 @@ use Rattle.cutlog.specs.Cells.{line_size, entry_in, line_in, lines_in}
 use Rattle.cutlog.specs.Quotas.{limited}
 use Rattle.cutlog.specs.declared.numbers.Numbers.{Numbers}
 
+-- as many lines as are held
 pub lines_long : (n held : ℕ) (cs : List ℤ) → length (lines_in n held cs) ≡ held
 lines_long n held cs = table_long (line_in n cs) held
 
+-- each with n coefficients
 lines_shaped : (n held : ℕ) (cs : List ℤ) → AllByRecursion (λ l. length l.row.coefs ≡ n) (lines_in n held cs)
 lines_shaped n held cs =
     let long = lines_long n held cs in

@@ -3,8 +3,8 @@ ghost use Rattle.std.specs.Prelude.{◌≡◌};
 ghost use Rattle.cutlog.specs.Quotas.{limited};
 ghost use Rattle.cutlog.specs.Kept.{limited_keeps};
 
+use crate::appending::next_line;
 use crate::logs::Log;
-use crate::shapes::is_shaped;
 use calculus::{Fields, Refusal};
 
 // The log below, and for how many lines there is room at most.
@@ -54,12 +54,7 @@ impl<L: Log> Log for Quota<L> {
     }
 
     fn add(&mut self, fields: Fields, row: &[i32]) -> Result<usize, Refusal> {
-        if !is_shaped(row, self.inner.unknowns()) {
-            return Err(Refusal::Shape);
-        }
-        if self.inner.count() >= self.capacity() {
-            return Err(Refusal::Log);
-        }
+        next_line(row, self.unknowns(), self.count(), self.capacity())?;
         self.inner.add(fields, row)
     }
 

@@ -6,8 +6,8 @@ ghost use Rattle.cutlog.specs.Kept.{numbers_keep};
 
 use super::Numbers;
 use super::cells::{entry_of, fields_of};
+use crate::appending::next_line;
 use crate::logs::Log;
-use crate::shapes::is_shaped;
 use calculus::{Fields, MAX_LINES, Refusal};
 
 impl Log for Numbers {
@@ -44,13 +44,7 @@ impl Log for Numbers {
         ensures memory { memory_of self.new ≡ memory_after self.old fields row.now }
         ensures untouched { past self.new (memory_of self.new) ≡ past self.new (memory_of self.old) }
     {
-        if !is_shaped(row, self.unknowns) {
-            return Err(Refusal::Shape);
-        }
-        let line = self.held;
-        if line >= self.capacity() {
-            return Err(Refusal::Log);
-        }
+        let line = next_line(row, self.unknowns(), self.count(), self.capacity())?;
         self.push(fields, row);
         Ok(line)
     }

@@ -1,16 +1,12 @@
--- Unknowns in a sequence: what stands where, moving to the front, and the first that is open.
-use Rattle.std.proofs.Common.{◌≡◌, ℕ, zero, suc, ◌+◌, ◌<◌, ◌≤◌, Bool, true, false, cond, eqb, ltb, List, [], ◌∷◌, ◌++◌, length, get_or, ℤ, Some, None, sym, refl, ap, ◌∙◌, subst, ⊎_elim, arith}
-use Rattle.std.specs.List.{remove}
-use Rattle.std.proofs.lemmas.List.{length-map, map-append}
-use Rattle.std.proofs.lemmas.Bool.{cases_eq}
+-- Unknowns in a sequence: what stands where, and moving to the front.
+use Rattle.std.proofs.Common.{◌≡◌, ℕ, zero, suc, ◌+◌, ◌<◌, Bool, true, false, cond, eqb, ltb, List, [], ◌∷◌, ◌++◌, length, get_or, sym, refl, ap, ◌∙◌, subst, arith}
+use Rattle.std.specs.List.{range_with_len, remove}
 use Rattle.std.proofs.lemmas.Bool.Decides.{nat_tests}
-use Rattle.calculus.specs.Advice.{Order, Advice, named, Orderly, Advises, open_or, first_open, choice, told_by, told}
+use Rattle.calculus.specs.Advice.{Order, Advice, named, Orderly, Advises, told_by, told}
 use Rattle.calculus.specs.Advice.{naming, others, to_front, blaming}
-use Rattle.calculus.specs.Tables.{table}
-use Rattle.calculus.specs.declared.sides.Side.TheVariants.{Low}
 use Rattle.calculus.proofs.Advising.{three_advise, told_like}
 use Rattle.advice.specs.Names.{on_low, lows_of, blaming_by}
-use Rattle.advice.proofs.Opens.{fixed, asked, unasked_low, unasked_high}
+use Rattle.advice.proofs.Opens.{by_number}
 
 -- the blaming adviser with an order
 abbrev by_order : Order → Advice
@@ -27,22 +23,11 @@ other_told o x e =
 
 -- ---- by number
 
-numbers_low : (m : ℕ) → lows_of (table (λ x. x) m) ≡ table (λ x. (x, Low)) m
-numbers_low zero = refl
-numbers_low (suc m) = map-append on_low (table (λ x. x) m) (m ∷ []) ∙ ap (λ (o : Order). o ++ on_low m ∷ []) (numbers_low m)
-
--- one more by number
-pub number_next : (xs ys : List ℕ) (m : ℕ) → ys ≡ xs ++ m ∷ [] → xs ≡ table (λ x. x) m → ys ≡ table (λ x. x) (m + 1)
-number_next xs ys m e h =
-    let more : suc m ≡ m + 1 = omega arith in
-    e ∙ ap (λ (zs : List ℕ). zs ++ m ∷ []) h ∙ ap (λ (n : ℕ). table (λ (x : ℕ). x) n) more
-
 -- all of them by number is the order at first
-pub at_first : (m : ℕ) (xs : List ℕ) → xs ≡ table (λ x. x) m → blaming_by xs ≡ blaming m
-at_first m xs e =
-    ap (λ (o : Order). by_order o) (ap (λ (ys : List ℕ). lows_of ys) e ∙ numbers_low m)
+pub at_first : (m : ℕ) (xs : List ℕ) → xs ≡ range_with_len 0 m → blaming_by xs ≡ blaming m
+at_first m xs e = ap (λ (o : Order). by_order o) (ap (λ (ys : List ℕ). lows_of ys) e ∙ by_number on_low m)
 
-pub first_orderly : (m : ℕ) (xs : List ℕ) → xs ≡ table (λ x. x) m → Orderly (lows_of xs)
+pub first_orderly : (m : ℕ) (xs : List ℕ) → xs ≡ range_with_len 0 m → Orderly (lows_of xs)
 first_orderly m xs e = subst (λ (a : Advice). Orderly a.mind.order) (sym (at_first m xs e)) (three_advise.1 m).orderly
 
 -- ---- places
@@ -59,14 +44,6 @@ named_nowhere [] x h = refl
 named_nowhere (y ∷ ys) x h =
     let rest = named_nowhere ys x (λ i l e. h (suc i) (omega arith) e) in
     let here : y ≡ x → ⊥ = h 0 (omega arith) in
-    grind (arith, nat_tests)
-
--- what stands at a place is below the length
-place_below : (xs : List ℕ) (i : ℕ) → Orderly (lows_of xs) → i < length xs → get_or xs i 0 < length xs
-place_below xs i h l =
-    let n = named_at xs i (get_or xs i 0) l refl in
-    let once = h (get_or xs i 0) in
-    let long = length-map xs on_low in
     grind (arith, nat_tests)
 
 -- ---- to the front
@@ -130,65 +107,3 @@ told_nowhere xs x h away =
     let once = h x in
     let own : ltb x (length (lows_of xs)) ≡ false = grind (arith, nat_tests) in
     other_told (lows_of xs) x own
-
--- ---- the first that is open
-
-none_open : (xs : List ℕ) (lows highs : List ℤ) → ((k : ℕ) → k < length xs → fixed lows highs (get_or xs k 0) ≡ true) →
-    first_open (lows_of xs) lows highs ≡ None
-none_open [] lows highs h = refl
-none_open (x ∷ xs) lows highs h =
-    ap (λ (b : Bool). open_or b (on_low x) (first_open (lows_of xs) lows highs)) (h 0 (omega arith))
-    ∙ none_open xs lows highs (λ k l. h (suc k) (omega arith))
-
-open_at : (xs : List ℕ) (i : ℕ) (lows highs : List ℤ) → i < length xs →
-    ((k : ℕ) → k < i → fixed lows highs (get_or xs k 0) ≡ true) → fixed lows highs (get_or xs i 0) ≡ false →
-    first_open (lows_of xs) lows highs ≡ Some (on_low (get_or xs i 0))
-open_at [] i lows highs l h e = absurd (omega arith)
-open_at (x ∷ xs) zero lows highs l h e = ap (λ (b : Bool). open_or b (on_low x) (first_open (lows_of xs) lows highs)) e
-open_at (x ∷ xs) (suc i) lows highs l h e =
-    ap (λ (b : Bool). open_or b (on_low x) (first_open (lows_of xs) lows highs)) (h 0 (omega arith))
-    ∙ open_at xs i lows highs (omega arith) (λ k l. h (suc k) (omega arith)) e
-
--- ---- asking, with the sequence read as a slice, of m unknowns
-
-pub place_within : (xs ys : List ℕ) (i m n : ℕ) → ys ≡ xs → m ≡ length xs → n ≡ m →
-    Orderly (lows_of xs) → i < length ys → get_or ys i 0 < n
-place_within xs ys i m n e k long h l =
-    let less = place_below xs i h (subst (λ (zs : List ℕ). i < length zs) e l) in
-    let same = ap (λ (zs : List ℕ). get_or zs i 0) e in
-    omega (arith, less, same, long, k)
-
-pub chosen_at : (xs ys : List ℕ) (i m : ℕ) (lows highs : List ℤ) → ys ≡ xs → m ≡ length xs → length lows ≡ m → length highs ≡ m →
-    i < length ys → ((k : ℕ) → k < i → fixed lows highs (get_or xs k 0) ≡ true) → false ≡ fixed lows highs (get_or ys i 0) →
-    Some (on_low (get_or ys i 0)) ≡ choice (lows_of xs) lows highs
-chosen_at xs ys i m lows highs e k l h less before here =
-    let same = ap (λ (zs : List ℕ). get_or zs i 0) e in
-    ap (λ (x : ℕ). Some (on_low x)) same
-    ∙ sym (asked (lows_of xs) m lows highs (length-map xs on_low ∙ sym k) l h
-    ∙ open_at xs i lows highs (subst (λ (zs : List ℕ). i < length zs) e less) before
-    (subst (λ (x : ℕ). fixed lows highs x ≡ false) same (sym here)))
-
-pub chosen_none : (xs ys : List ℕ) (i m : ℕ) (lows highs : List ℤ) → ys ≡ xs → m ≡ length xs → length lows ≡ m → length highs ≡ m →
-    length ys ≤ i → ((k : ℕ) → k < i → fixed lows highs (get_or xs k 0) ≡ true) → None ≡ choice (lows_of xs) lows highs
-chosen_none xs ys i m lows highs e k l h less before =
-    let long = ap (λ (zs : List ℕ). length zs) e in
-    sym (asked (lows_of xs) m lows highs (length-map xs on_low ∙ sym k) l h
-    ∙ none_open xs lows highs (λ j n. before j (omega (arith, n, less, long))))
-
-pub fixed_next : (xs ys : List ℕ) (i : ℕ) (lows highs : List ℤ) → ys ≡ xs →
-    ((k : ℕ) → k < i → fixed lows highs (get_or xs k 0) ≡ true) → true ≡ fixed lows highs (get_or ys i 0) →
-    (k : ℕ) → k < i + 1 → fixed lows highs (get_or xs k 0) ≡ true
-fixed_next xs ys i lows highs e before here k l =
-    ⊎_elim
-    (λ (q : k ≡ i). ap (λ (j : ℕ). fixed lows highs (get_or xs j 0)) q ∙ ap (λ (zs : List ℕ). fixed lows highs (get_or zs i 0)) (sym e)
-    ∙ sym here)
-    (λ (q : k ≡ i → ⊥). before k (omega arith))
-    (cases_eq k i)
-
-pub unfit_low : (xs : List ℕ) (m : ℕ) (lows highs : List ℤ) → m ≡ length xs → (length lows ≡ m → ⊥) →
-    None ≡ choice (lows_of xs) lows highs
-unfit_low xs m lows highs k l = sym (unasked_low (lows_of xs) m lows highs (length-map xs on_low ∙ sym k) l)
-
-pub unfit_high : (xs : List ℕ) (m : ℕ) (lows highs : List ℤ) → m ≡ length xs → (length highs ≡ m → ⊥) →
-    None ≡ choice (lows_of xs) lows highs
-unfit_high xs m lows highs k h = sym (unasked_high (lows_of xs) m lows highs (length-map xs on_low ∙ sym k) h)

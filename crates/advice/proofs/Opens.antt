@@ -1,79 +1,62 @@
--- The first open pair of an order: past the pairs that are fixed.
-use Rattle.std.proofs.Common.{◌≡◌, ℕ, zero, suc, ◌<◌, Bool, true, false, ◌&&◌, eqb, List, [], ◌∷◌, ◌++◌, length, ℤ, Some, None, refl, ap, ◌∙◌, subst, ⊎_elim, arith}
-use Rattle.std.proofs.lemmas.Bool.{cases_eq}
-use Rattle.std.proofs.lemmas.Bool.Decides.{nat_tests}
-use Rattle.calculus.specs.Advice.{Order, open_or, first_open, only_if, choice}
+-- The first of a sequence of unknowns that is not fixed, and the choice that it makes.
+use Rattle.std.proofs.Common.{◌≡◌, ℕ, zero, suc, Bool, true, false, not, cond, ◌&&◌, eqb, List, [], ◌∷◌, ◌++◌, map, length, ℤ, Some, None, Option, sym, refl, ap, ◌∙◌, add-one, arith}
+use Rattle.std.specs.List.{find, range_with_len}
+use Rattle.std.specs.Option.{option_map}
+use Rattle.std.proofs.lemmas.List.{length-map}
+use Rattle.std.proofs.lemmas.List.FromFn.{map-range_with_len_more}
+use Rattle.calculus.specs.Advice.{Order, advised, steady, open_or, first_open, only_if, choice}
+use Rattle.calculus.proofs.Advising.{three_advised}
 use Rattle.calculus.specs.Arithmetic.{same_number}
 use Rattle.calculus.specs.Rows.{coef}
 use Rattle.calculus.specs.Tables.{table}
-use Rattle.calculus.specs.declared.sides.Side.{Side}
-use Rattle.calculus.specs.declared.sides.Side.TheVariants.{Low}
+use Rattle.advice.specs.Names.{on_low, lows_of}
 
 -- low and high of x are equal
 abbrev pub fixed : List ℤ → List ℤ → ℕ → Bool
 fixed lows highs x = same_number (coef lows x) (coef highs x)
 
--- a pair behind others: seen where none of those is open
-pub past_none : (o p : Order) (lows highs : List ℤ) → first_open o lows highs ≡ None →
-    first_open (o ++ p) lows highs ≡ first_open p lows highs
-past_none [] p lows highs h = refl
-past_none (q ∷ o) p lows highs h = by (fixed lows highs q.0) h (past_none o p lows highs)
-  where
-    by : (b : Bool) → open_or b q (first_open o lows highs) ≡ None →
-        (first_open o lows highs ≡ None → first_open (o ++ p) lows highs ≡ first_open p lows highs) →
-        open_or b q (first_open (o ++ p) lows highs) ≡ first_open p lows highs
-    by true h later = later h
-    by false h later = let z : ◌≡◌ {A = ℕ} 0 1 = cc in absurd (omega arith)
+-- the first of a sequence that is not fixed
+abbrev pub first : List ℤ → List ℤ → List ℕ → Option ℕ
+first lows highs xs = find (λ x. not (fixed lows highs x)) xs
 
-pub past_some : (o p : Order) (lows highs : List ℤ) (r : ℕ × Side) → first_open o lows highs ≡ Some r →
-    first_open (o ++ p) lows highs ≡ Some r
-past_some [] p lows highs r h = let z : ◌≡◌ {A = ℕ} 0 1 = cc in absurd (omega arith)
-past_some (q ∷ o) p lows highs r h = by (fixed lows highs q.0) h (past_some o p lows highs r)
+first_is_open : (xs : List ℕ) (lows highs : List ℤ) → option_map on_low (first lows highs xs) ≡ first_open (lows_of xs) lows highs
+first_is_open [] lows highs = refl
+first_is_open (x ∷ xs) lows highs = by (fixed lows highs x) (first_is_open xs lows highs)
   where
-    by : (b : Bool) → open_or b q (first_open o lows highs) ≡ Some r →
-        (first_open o lows highs ≡ Some r → first_open (o ++ p) lows highs ≡ Some r) →
-        open_or b q (first_open (o ++ p) lows highs) ≡ Some r
-    by true h later = later h
-    by false h later = h
+    by : (b : Bool) → option_map on_low (first lows highs xs) ≡ first_open (lows_of xs) lows highs →
+        option_map on_low (cond (not b) (Some x) (first lows highs xs))
+        ≡ open_or b (on_low x) (first_open (lows_of xs) lows highs)
+    by true later = later
+    by false later = refl
+
+low_once : {A : Type 0} (v : A → ℕ) (r : Option A) → option_map (λ a. on_low (v a)) r ≡ option_map on_low (option_map v r)
+low_once v None = refl
+low_once v (Some a) = refl
+
+-- asked with lists of the length of its order, an adviser chooses that on side low; v reads what an iterator found
+pub choice_first : {A : Type 0} (v : A → ℕ) (r : Option A) (xs : List ℕ) (lows highs : List ℤ) (m : ℕ) →
+    option_map v r ≡ first lows highs xs → m ≡ length xs → true ≡ (eqb (length lows) m && eqb (length highs) m) →
+    option_map (λ a. on_low (v a)) r ≡ choice (lows_of xs) lows highs
+choice_first v r xs lows highs m f e h =
+    let long = e ∙ sym (length-map xs on_low) in
+    low_once v r ∙ ap (option_map on_low) f ∙ first_is_open xs lows highs
+    ∙ ap (λ (b : Bool). only_if b (first_open (lows_of xs) lows highs))
+    (h ∙ ap (λ (n : ℕ). eqb (length lows) n && eqb (length highs) n) long)
+
+-- asked with a list of another length, it makes no choice
+pub choice_none : (o : Order) (lows highs : List ℤ) (m : ℕ) → m ≡ length o →
+    false ≡ (eqb (length lows) m && eqb (length highs) m) → None ≡ choice o lows highs
+choice_none o lows highs m e h =
+    ap (λ (b : Bool). only_if b (first_open o lows highs)) (h ∙ ap (λ (n : ℕ). eqb (length lows) n && eqb (length highs) n) e)
 
 -- ---- by number
 
-abbrev pub numbered : ℕ → Order
-numbered m = table (λ x. (x, Low)) m
+-- the numbers below m, through f
+pub by_number : {X : Type 0} (f : ℕ → X) (m : ℕ) → map f (range_with_len 0 m) ≡ table f m
+by_number f zero = refl
+by_number f (suc m) = ap (λ n. map f (range_with_len 0 n)) (sym (add-one m)) ∙ map-range_with_len_more f 0 m m (omega arith)
+    ∙ ap (λ xs. xs ++ f m ∷ []) (by_number f m)
 
-pub numbered_none : (m : ℕ) (lows highs : List ℤ) → ((x : ℕ) → x < m → fixed lows highs x ≡ true) →
-    first_open (numbered m) lows highs ≡ None
-numbered_none zero lows highs h = refl
-numbered_none (suc m) lows highs h =
-    past_none (numbered m) ((m, Low) ∷ []) lows highs (numbered_none m lows highs (λ x l. h x (omega arith)))
-    ∙ ap (λ (b : Bool). open_or b (m, Low) None) (h m (omega arith))
-
-pub numbered_some : (m i : ℕ) (lows highs : List ℤ) → i < m → ((x : ℕ) → x < i → fixed lows highs x ≡ true) → fixed lows highs i ≡ false →
-    first_open (numbered m) lows highs ≡ Some (i, Low)
-numbered_some zero i lows highs l h e = absurd (omega arith)
-numbered_some (suc m) i lows highs l h e =
-    ⊎_elim
-    (λ (k : i ≡ m). past_none (numbered m) ((m, Low) ∷ []) lows highs (numbered_none m lows highs (λ x l. h x (omega arith)))
-    ∙ subst (λ (y : ℕ). open_or (fixed lows highs y) (y, Low) None ≡ Some (i, Low)) k (ap (λ (b : Bool). open_or b (i, Low) None) e))
-    (λ (k : i ≡ m → ⊥). past_some (numbered m) ((m, Low) ∷ []) lows highs (i, Low) (numbered_some m i lows highs (omega arith) h e))
-    (cases_eq i m)
-
--- ---- the lengths
-
--- asked with lists of its own length, an adviser goes by its order
-pub asked : (o : Order) (m : ℕ) (lows highs : List ℤ) → length o ≡ m → length lows ≡ m → length highs ≡ m →
-    choice o lows highs ≡ first_open o lows highs
-asked o m lows highs k l h =
-    let both : (eqb (length lows) (length o) && eqb (length highs) (length o)) ≡ true = grind (arith, nat_tests) in
-    ap (λ (b : Bool). only_if b (first_open o lows highs)) both
-
--- asked with a list of another length, it makes no choice
-pub unasked_low : (o : Order) (m : ℕ) (lows highs : List ℤ) → length o ≡ m → (length lows ≡ m → ⊥) → choice o lows highs ≡ None
-unasked_low o m lows highs k l =
-    let off : (eqb (length lows) (length o) && eqb (length highs) (length o)) ≡ false = grind (arith, nat_tests) in
-    ap (λ (b : Bool). only_if b (first_open o lows highs)) off
-
-pub unasked_high : (o : Order) (m : ℕ) (lows highs : List ℤ) → length o ≡ m → (length highs ≡ m → ⊥) → choice o lows highs ≡ None
-unasked_high o m lows highs k l =
-    let off : (eqb (length lows) (length o) && eqb (length highs) (length o)) ≡ false = grind (arith, nat_tests) in
-    ap (λ (b : Bool). only_if b (first_open o lows highs)) off
+-- how many the steady one is for
+pub steady_long : (m : ℕ) → advised (steady m) ≡ m
+steady_long m = three_advised.0 m

@@ -1,10 +1,10 @@
 -- What follows of a choice of any adviser that keeps to what an adviser is.
-use Rattle.std.proofs.Common.{◌≡◌, ℕ, ◌<◌, Bool, true, false, ◌&&◌, eqb, List, length, ℤ, Some, None, Option, sym, refl, ap, ◌∙◌, subst, arith}
+use Rattle.std.proofs.Common.{◌≡◌, ℕ, ◌<◌, Bool, true, false, ◌&&◌, eqb, List, length, ℤ, Some, None, Option, sym, refl, subst, arith}
 use Rattle.std.proofs.lemmas.Bool.Decides.{nat_tests}
-use Rattle.calculus.specs.Advice.{Order, Advice, advised, Orderly, Advises, first_open, only_if, choice}
+use Rattle.calculus.specs.Advice.{Order, Orderly, first_open, only_if, choice}
 use Rattle.calculus.specs.declared.sides.Side.{Side}
-use Rattle.calculus.proofs.Advising.{choice_open, told_like}
-use Rattle.advice.specs.Telling.{told_choice, Open}
+use Rattle.calculus.proofs.Advising.{choice_open}
+use Rattle.advice.specs.Telling.{Open}
 
 -- where there is a choice, the lists are as long as the order
 chosen_long : (o : Order) (lows highs : List ℤ) (p : ℕ × Side) → choice o lows highs ≡ Some p →
@@ -24,8 +24,3 @@ chosen_open o lows highs (Some (x, s)) h e =
     let long = chosen_long o lows highs (x, s) (sym e) in
     let r = (choice_open o lows highs h long.0 long.1).0 x s (sym e) in
     (subst (λ (m : ℕ). x < m) (sym long.0) r.0, r.1)
-
--- telling an adviser a choice keeps the number of unknowns
-pub told_long : (a b : Advice) (r : Option (ℕ × Side)) → Advises a → b ≡ told_choice a r → advised b ≡ advised a
-told_long a b None h e = ap (λ (d : Advice). advised d) e
-told_long a b (Some p) h e = ap (λ (d : Advice). advised d) e ∙ (told_like a p.0 h).same

@@ -30,10 +30,10 @@ choice_turned o lows highs =
     by false = refl
 
 -- telling the adviser inside is telling the turned one
-pub told_turned : (a b : Advice) (x : ℕ) → b ≡ told a x → turned b ≡ told (turned a) x
-told_turned a b x e =
-    ap turned e ∙ ap (λ (s : Mind). record { mind = s; rule = (turned a).rule }) (by (ltb x (length a.mind.order))
-    ∙ ap (λ (m : ℕ). told_by (ltb x m) (turned a).rule (turned_mind a.mind) x) (sym (length-map a.mind.order turned_pair)))
+pub told_turned : (a : Advice) (x : ℕ) → told (turned a) x ≡ turned (told a x)
+told_turned a x =
+    sym (ap (λ (s : Mind). record { mind = s; rule = (turned a).rule }) (by (ltb x (length a.mind.order))
+    ∙ ap (λ (m : ℕ). told_by (ltb x m) (turned a).rule (turned_mind a.mind) x) (sym (length-map a.mind.order turned_pair))))
   where
     by : (b : Bool) → turned_mind (told_by b a.rule a.mind x) ≡ told_by b (turned a).rule (turned_mind a.mind) x
     by true = ap (λ (s : Mind). turned_mind (a.rule s x)) (sym (ap (λ (d : Advice). d.mind) (turned_twice a)))

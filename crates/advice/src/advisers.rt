@@ -2,6 +2,7 @@
 ghost use Rattle.calculus.specs.Advice.{Advice, Advises, advised, choice, told as after_told};
 ghost use Rattle.std.specs.Prelude.{◌≡◌};
 
+use super::ends::Ends;
 use calculus::Side;
 
 // An adviser tells where to decide. It means an order, a memory and its kind's rule, which never changes.
@@ -13,8 +14,8 @@ pub trait Adviser {
         ensures { result ≡ advised (advice self.now) };
 
     // The first of its order that is not fixed, with its side, or no choice.
-    fn ask(&self, lows: &[i32], highs: &[i32]) -> Option<(usize, Side)>
-        ensures { result ≡ choice (advice self.now).mind.order lows.now highs.now };
+    fn ask(&self, ends: Ends<'_>) -> Option<(usize, Side)>
+        ensures { result ≡ choice (advice self.now).mind.order ends.entry.lows.now ends.entry.highs.now };
 
     // Being told an unknown changes it by its rule; one that is not its own changes nothing.
     fn told(&mut self, unknown: usize)

@@ -4,11 +4,12 @@ ghost use Rattle.advice.specs.ChosenKept.{any_advises};
 
 use super::advisers::Adviser;
 use super::blamers::Blaming;
+use super::ends::Ends;
 use super::steadies::Steady;
 use super::turners::Turned;
 use calculus::Side;
 
-// One of the four, chosen when the program runs.
+// One of the four, chosen when the program runs: an enum with matches, since a dyn value may not be handed out.
 #[derive(Drop)]
 pub enum AnyAdviser {
     Steady(Steady),
@@ -31,12 +32,12 @@ impl Adviser for AnyAdviser {
         }
     }
 
-    fn ask(&self, lows: &[i32], highs: &[i32]) -> Option<(usize, Side)> {
+    fn ask(&self, ends: Ends<'_>) -> Option<(usize, Side)> {
         match self {
-            AnyAdviser::Steady(a) => a.ask(lows, highs),
-            AnyAdviser::Blaming(a) => a.ask(lows, highs),
-            AnyAdviser::TurnedSteady(a) => a.ask(lows, highs),
-            AnyAdviser::TurnedBlaming(a) => a.ask(lows, highs),
+            AnyAdviser::Steady(a) => a.ask(ends),
+            AnyAdviser::Blaming(a) => a.ask(ends),
+            AnyAdviser::TurnedSteady(a) => a.ask(ends),
+            AnyAdviser::TurnedBlaming(a) => a.ask(ends),
         }
     }
 

@@ -4,7 +4,8 @@
 mod advisers;
 mod blamers;
 mod choosers;
-mod fixing;
+mod ends;
+mod limits;
 mod steadies;
 mod telling;
 #[cfg(test)]
@@ -15,6 +16,7 @@ mod unmade;
 pub use advisers::Adviser;
 pub use blamers::Blaming;
 pub use choosers::AnyAdviser;
+pub use ends::Ends;
 pub use steadies::Steady;
 pub use telling::ask_and_tell;
 pub use turners::Turned;

@@ -6,7 +6,7 @@ use Rattle.calculus.specs.declared.kinds.Fields.{Fields}
 use Rattle.cutlog.specs.Books.{book_of, book_with, memory_of, memory_with, past}
 use Rattle.cutlog.specs.Cells.{ReadsBack, fitting, line_size, lines_in, spelled}
 use Rattle.cutlog.specs.declared.numbers.Numbers.{Numbers}
-use Rattle.cutlog.specs.Held.{line_fits, lines_more}
+use Rattle.cutlog.proofs.Held.{line_fits, lines_more}
 
 module _ (s t : Numbers) (f : Fields) (row : List ℤ) (room : s.held < fitting s.unknowns (vec_len s.cells))
     (shape : length row ≡ suc s.unknowns) (held : t.held ≡ s.held + 1) (same : t.unknowns ≡ s.unknowns)

@@ -1,7 +1,7 @@
 -- Lines in numbers: what a list of numbers holds, whatever it is.
 use Rattle.std.specs.Prelude.{◌≡◌, ℕ, ◌+◌, ◌*◌, ◌/◌, ◌^◌, ◌<◌, min, cond, List, ◌∷◌, length, ℤ, pos, negsuc, nat_lt}
 use Rattle.calculus.specs.Limits.{most_lines}
-use Rattle.calculus.specs.Logs.{Line}
+use Rattle.calculus.specs.Logs.{Line, entries}
 use Rattle.calculus.specs.Rows.{Row, coef}
 use Rattle.calculus.specs.Tables.{table}
 use Rattle.calculus.specs.declared.kinds.Fields.{Fields}
@@ -53,3 +53,8 @@ lines_in n held cs = table (line_in n cs) held
 -- the numbers of a line, from the first
 abbrev pub spelled : Fields → List ℤ → List ℤ
 spelled f row = pos f.kind ∷ pos f.i ∷ pos f.j ∷ pos f.k ∷ pos f.m ∷ row
+
+-- What the numbers of a line spell, those in front and the rest: its fields, and behind them its entries.
+pub record Spells (l : Line) (front rest : List ℤ) : Type 0 where
+  pub fields : fields_in front 0 ≡ l.fields
+  pub row : (e : ℕ) → entry_in (coef rest e) ≡ coef (entries l.row) e

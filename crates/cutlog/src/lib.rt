@@ -1,11 +1,11 @@
 // Logs: what a log is, the log in numbers, and the quota over any log.
 #![tactic(auto)]
 
+mod appending;
 mod lines;
 mod logs;
 mod numbers;
 mod quotas;
-mod shapes;
 #[cfg(test)]
 mod tests;
 

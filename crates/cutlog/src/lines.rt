@@ -12,10 +12,8 @@ pub fn add_line<L: Log>(log: &mut L, kind: Kind, row: &[i32]) -> Result<u16, Ref
     ensures answer { result ≡ append_answer (L.Log.book log.old) row.now }
     ensures book { L.Log.book log.new ≡ appended (L.Log.book log.old) (fields_of kind) row.now }
 {
-    match log.add(kind.fields(), row) {
-        Ok(line) => Ok(line as u16),
-        Err(refusal) => Err(refusal),
-    }
+    let line = log.add(kind.into(), row)?;
+    Ok(line as u16)
 }
 
 // Writes the entries of a line into a list, 0 for those that are not held.

@@ -12,6 +12,7 @@ mod making;
 mod parts;
 
 // The memory handed in, and how many lines of it are held. What the memory holds is read as 0 where it is no number of a line.
+// It stays one list of numbers: it is handed in, handed back whole, and written nowhere but where a new line lies.
 #[derive(Drop)]
 pub struct Numbers {
     cells: Vec<i64>,
@@ -22,7 +23,7 @@ pub struct Numbers {
 }
 
 // Why no log was opened, and the memory again.
-#[derive(Drop)]
+#[derive(Debug, Drop)]
 pub struct Unopened {
     pub refusal: Refusal,
     pub cells: Vec<i64>,

@@ -1,10 +1,10 @@
 // A limit over any log.
-ghost use Rattle.std.specs.Prelude.{◌≡◌, min};
+ghost use Rattle.std.specs.Prelude.{◌≡◌};
 ghost use Rattle.cutlog.specs.Quotas.{limited};
 ghost use Rattle.cutlog.specs.Kept.{limited_keeps};
 
+use crate::appending::next_line;
 use crate::logs::Log;
-use crate::shapes::is_shaped;
 use calculus::{Fields, Refusal};
 
 // The log below, and for how many lines there is room at most.
@@ -27,15 +27,8 @@ impl<L: Log> Quota<L> {
     pub fn into_inner(self) -> L
         ensures { result ≡ self.inner }
     {
-        let Quota { inner, limit: _ } = self;
+        let Quota { inner, .. } = self;
         inner
-    }
-
-    // For how many lines there is room, by the limit and by the log below.
-    fn room(&self) -> usize
-        ensures { result ≡ min self.now.limit (L.Log.book self.now.inner).capacity }
-    {
-        self.limit.min(self.inner.capacity())
     }
 }
 
@@ -49,7 +42,7 @@ impl<L: Log> Log for Quota<L> {
     }
 
     fn capacity(&self) -> usize {
-        self.room()
+        self.limit.min(self.inner.capacity())
     }
 
     fn count(&self) -> usize {
@@ -61,12 +54,7 @@ impl<L: Log> Log for Quota<L> {
     }
 
     fn add(&mut self, fields: Fields, row: &[i32]) -> Result<usize, Refusal> {
-        if !is_shaped(row, self.inner.unknowns()) {
-            return Err(Refusal::Shape);
-        }
-        if self.inner.count() >= self.room() {
-            return Err(Refusal::Log);
-        }
+        next_line(row, self.unknowns(), self.count(), self.capacity())?;
         self.inner.add(fields, row)
     }
 

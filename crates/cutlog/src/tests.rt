@@ -10,18 +10,12 @@ const FOUND: i64 = 7_000_000_000;
 
 // A log on so many numbers.
 fn opened(heap: Global, numbers: usize, unknowns: usize) -> Result<Numbers, Fail> {
-    match Numbers::open(vec![in heap; FOUND; numbers]?, unknowns) {
-        Ok(log) => Ok(log),
-        Err(_) => Err(Fail::new("not opened")),
-    }
+    Ok(Numbers::open(vec![in heap; FOUND; numbers]?, unknowns)?)
 }
 
-// The number of a refusal, and 0 for a line taken.
-fn refused(answer: Result<usize, Refusal>) -> u8 {
-    match answer {
-        Ok(_) => 0,
-        Err(refusal) => refusal.number(),
-    }
+// An answer with its refusal by number.
+fn by_number(answer: Result<usize, Refusal>) -> Result<usize, u8> {
+    answer.map_err(Refusal::number)
 }
 
 // Fields at the ends of their widths.
@@ -37,34 +31,34 @@ fn widest() -> Fields {
 
 // A held line with the widest fields and entries.
 fn holds_widest<L: Log>(rt: &impl Abort, log: &L, line: usize) {
-    let fields = log.fields(line);
-    assert!(rt; fields.kind == 255 && fields.i == 65_535 && fields.j == 65_534);
-    assert!(rt; fields.k == 4_294_967_295 && fields.m == 4_294_967_294);
-    assert!(rt; log.entry(line, 0) == i32::MIN && log.entry(line, 1) == i32::MAX);
+    assert_eq!(rt; log.fields(line), widest());
+    assert_eq!(rt; log.entry(line, 0), i32::MIN);
+    assert_eq!(rt; log.entry(line, 1), i32::MAX);
     assert_eq!(rt; log.entry(line, 2), 0);
 }
 
 // A line that is not held.
 fn holds_nothing<L: Log>(rt: &impl Abort, log: &L, line: usize) {
-    assert_eq!(rt; log.fields(line).kind, 0);
+    assert_eq!(rt; log.fields(line), Fields::default());
     assert_eq!(rt; log.entry(line, 0), 0);
 }
 
 // Rows that are too short and too long by one.
 fn refuses_shapes<L: Log>(rt: &impl Abort, log: &mut L) {
-    assert_eq!(rt; refused(log.add(widest(), &[0])), 1);
-    assert_eq!(rt; refused(log.add(widest(), &[0, 0, 0])), 1);
+    assert_eq!(rt; by_number(log.add(widest(), &[0])), Err(1));
+    assert_eq!(rt; by_number(log.add(widest(), &[0, 0, 0])), Err(1));
 }
 
 // Any log for one unknown, filled to its room, and asked.
 fn fills<L: Log>(rt: &impl Abort, log: &mut L, room: usize) {
     log.begin();
-    assert!(rt; log.unknowns() == 1 && log.capacity() == room);
+    assert_eq!(rt; log.unknowns(), 1);
+    assert_eq!(rt; log.capacity(), room);
     refuses_shapes(rt, log);
-    for _ in 0..room {
-        assert_eq!(rt; refused(log.add(widest(), &[i32::MIN, i32::MAX])), 0);
+    for line in 0..room {
+        assert_eq!(rt; log.add(widest(), &[i32::MIN, i32::MAX]), Ok(line));
     }
-    assert_eq!(rt; refused(log.add(widest(), &[0, 0])), 14);
+    assert_eq!(rt; by_number(log.add(widest(), &[0, 0])), Err(14));
     refuses_shapes(rt, log);
     assert_eq!(rt; log.count(), room);
     for line in 0..room {
@@ -92,7 +86,7 @@ fn numbers_with_no_room(rt: HostRuntime) -> Result<(), Fail> {
 #[test]
 fn numbers_hand_back_their_memory(rt: HostRuntime) -> Result<(), Fail> {
     let mut log = opened(rt.alloc(), 20, 1)?;
-    assert_eq!(rt; refused(log.add(widest(), &[i32::MIN, i32::MAX])), 0);
+    assert_eq!(rt; log.add(widest(), &[i32::MIN, i32::MAX]), Ok(0));
     log.begin();
     let cells = log.into_cells();
     assert!(rt; cells.len() == 20);
@@ -116,15 +110,13 @@ fn numbers_of_the_most_lines(rt: HostRuntime) -> Result<(), Fail> {
 fn unknowns_from_24_to_25(rt: HostRuntime) -> Result<(), Fail> {
     let log = opened(rt.alloc(), 30, 24)?;
     assert_eq!(rt; log.capacity(), 1);
-    match Numbers::open(log.into_cells(), 25) {
-        Ok(_) => Err(Fail::new("opened")),
-        Err(unopened) => {
-            assert_eq!(rt; unopened.refusal.number(), 1);
-            assert!(rt; unopened.cells.len() == 30);
-            assert_eq!(rt; unopened.cells[29], FOUND);
-            Ok(())
-        }
-    }
+    let Err(unopened) = Numbers::open(log.into_cells(), 25) else {
+        return Err(Fail::new("opened"));
+    };
+    assert_eq!(rt; unopened.refusal.number(), 1);
+    assert!(rt; unopened.cells.len() == 30);
+    assert_eq!(rt; unopened.cells[29], FOUND);
+    Ok(())
 }
 
 #[test]
@@ -146,7 +138,7 @@ fn quota_over_a_fuller_log(rt: HostRuntime) -> Result<(), Fail> {
     assert_eq!(rt; quota.capacity(), 2);
     assert_eq!(rt; quota.count(), 4);
     assert_eq!(rt; quota.fields(3).kind, 255);
-    assert_eq!(rt; refused(quota.add(widest(), &[0, 0])), 14);
+    assert_eq!(rt; by_number(quota.add(widest(), &[0, 0])), Err(14));
     assert_eq!(rt; quota.into_inner().count(), 4);
     Ok(())
 }
@@ -155,18 +147,15 @@ fn quota_over_a_fuller_log(rt: HostRuntime) -> Result<(), Fail> {
 fn lines_copied_into_a_quota(rt: HostRuntime) -> Result<(), Fail> {
     let mut log = opened(rt.alloc(), 28, 1)?;
     let kind = Kind::Cut { line: 9, k: 3 };
-    assert!(rt; add_line(&mut log, kind, &[2, -5]).is_ok());
+    assert_eq!(rt; add_line(&mut log, kind, &[2, -5]), Ok(0));
     let mut quota = Quota::over(opened(rt.alloc(), 28, 1)?, 1);
     let mut row = [0; 2];
-    assert_eq!(rt; refused(copy_line(&log, 0, &mut quota, &mut row)), 0);
-    assert_eq!(rt; refused(copy_line(&log, 0, &mut quota, &mut row)), 14);
+    assert_eq!(rt; copy_line(&log, 0, &mut quota, &mut row), Ok(0));
+    assert_eq!(rt;
+        by_number(copy_line(&log, 0, &mut quota, &mut row)),
+        Err(14)
+    );
     assert_eq!(rt; quota.entry(0, 1), -5);
-    match quota.fields(0).kind() {
-        Some(Kind::Cut { line, k }) => {
-            assert_eq!(rt; line, 9);
-            assert_eq!(rt; k, 3);
-            Ok(())
-        }
-        _ => Err(Fail::new("no cut")),
-    }
+    assert_eq!(rt; Kind::try_from(quota.fields(0)), Ok(kind));
+    Ok(())
 }

@@ -3,9 +3,9 @@ ghost use Rattle.advice.specs.Blamed.{blaming_of};
 ghost use Rattle.calculus.proofs.Advising.{three_advise};
 
 use super::super::advisers::Adviser;
-use super::super::fixing::is_fixed;
+use super::super::ends::Ends;
 use super::Blaming;
-use super::names::move_to_front;
+use super::names::{move_to_front, place_of};
 use calculus::Side;
 
 impl Adviser for Blaming {
@@ -14,25 +14,23 @@ impl Adviser for Blaming {
     ghost kept = { λ b. record { orderly = b.orderly; keeps = (three_advise.1 0).keeps } };
 
     fn unknowns(&self) -> usize {
-        self.count()
+        self.names.len()
     }
 
-    fn ask(&self, lows: &[i32], highs: &[i32]) -> Option<(usize, Side)> {
-        if lows.len() != self.count() || highs.len() != self.count() {
+    fn ask(&self, ends: Ends<'_>) -> Option<(usize, Side)> {
+        if !ends.have_length(self.names.len()) {
             return None;
         }
-        for unknown in self.names.as_slice() {
-            if !is_fixed(lows, highs, *unknown) {
-                return Some((*unknown, Side::Low));
-            }
-        }
-        None
+        self.names
+            .iter()
+            .find(|unknown| !ends.is_fixed(**unknown))
+            .map(|unknown| (*unknown, Side::Low))
     }
 
+    #[tactic(auto, using(crate::proofs::Fronts::told_front, crate::proofs::Fronts::told_nowhere, std::proofs::lemmas::List::with_items_is))]
     fn told(&mut self, unknown: usize) {
-        let Some(place) = self.place(unknown) else {
-            return;
-        };
-        move_to_front(&mut self.names, place);
+        if let Some(place) = place_of(&self.names, unknown) {
+            move_to_front(&mut self.names, place);
+        }
     }
 }

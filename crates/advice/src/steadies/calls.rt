@@ -5,26 +5,18 @@ ghost use Rattle.std.specs.Prelude.{◌≡◌};
 ghost use Rattle.calculus.proofs.Advising.{three_advise};
 
 use super::super::advisers::Adviser;
-use super::super::fixing::is_fixed;
+use super::super::ends::Ends;
+use super::super::limits::at_most_limit;
 use super::Steady;
-use calculus::{MAX_UNKNOWNS, Refusal, Side};
+use calculus::{Refusal, Side};
 
 impl Steady {
     // A steady adviser for so many unknowns; more than a ticket may have are refused.
     pub fn new(unknowns: usize) -> Result<Steady, Refusal>
         ensures { result ≡ made_for unknowns (record { unknowns = unknowns }) }
     {
-        if unknowns > MAX_UNKNOWNS {
-            return Err(Refusal::Shape);
-        }
+        at_most_limit(unknowns)?;
         Ok(Steady { unknowns })
-    }
-
-    // How many unknowns it was made for.
-    fn count(&self) -> usize
-        ensures { result ≡ self.now.unknowns }
-    {
-        self.unknowns
     }
 }
 
@@ -33,20 +25,18 @@ impl Adviser for Steady {
 
     ghost kept = { λ a. three_advise.0 a.unknowns };
 
+    #[tactic(auto, using(crate::proofs::Opens::steady_long))]
     fn unknowns(&self) -> usize {
-        self.count()
+        self.unknowns
     }
 
-    fn ask(&self, lows: &[i32], highs: &[i32]) -> Option<(usize, Side)> {
-        if lows.len() != self.unknowns || highs.len() != self.unknowns {
+    fn ask(&self, ends: Ends<'_>) -> Option<(usize, Side)> {
+        if !ends.have_length(self.unknowns) {
             return None;
         }
-        for unknown in 0..self.unknowns {
-            if !is_fixed(lows, highs, unknown) {
-                return Some((unknown, Side::Low));
-            }
-        }
-        None
+        (0..self.unknowns)
+            .find(|unknown| !ends.is_fixed(*unknown))
+            .map(|unknown| (unknown, Side::Low))
     }
 
     fn told(&mut self, _unknown: usize) {}

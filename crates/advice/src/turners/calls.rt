@@ -1,10 +1,10 @@
 // Turning an adviser, and what a turned one answers.
 ghost use Rattle.std.specs.Prelude.{◌≡◌};
-ghost use Rattle.std.specs.Option.{option_map};
-ghost use Rattle.calculus.specs.Advice.{advised, told as after_told, turned, turned_pair, turned_side};
+ghost use Rattle.calculus.specs.Advice.{turned, turned_side};
 ghost use Rattle.calculus.proofs.Advising.{three_advise};
 
 use super::super::advisers::Adviser;
+use super::super::ends::Ends;
 use super::Turned;
 use calculus::Side;
 
@@ -16,16 +16,6 @@ fn other(side: Side) -> Side
         Side::Low => Side::High,
         Side::High => Side::Low,
     }
-}
-
-// The same unknown on the other side.
-fn turned_choice(choice: Option<(usize, Side)>) -> Option<(usize, Side)>
-    ensures { result ≡ option_map turned_pair choice }
-{
-    let Some((unknown, side)) = choice else {
-        return None;
-    };
-    Some((unknown, other(side)))
 }
 
 impl<A: Adviser> Turned<A> {
@@ -43,20 +33,6 @@ impl<A: Adviser> Turned<A> {
         let Turned { inner } = self;
         inner
     }
-
-    // How many unknowns the adviser inside is for.
-    fn count(&self) -> usize
-        ensures { result ≡ advised (A.Adviser.advice self.now.inner) }
-    {
-        self.inner.unknowns()
-    }
-
-    // Tells the adviser inside.
-    fn tell_inner(&mut self, unknown: usize)
-        ensures { A.Adviser.advice self.new.inner ≡ after_told (A.Adviser.advice self.old.inner) unknown }
-    {
-        self.inner.told(unknown);
-    }
 }
 
 impl<A: Adviser> Adviser for Turned<A> {
@@ -65,14 +41,17 @@ impl<A: Adviser> Adviser for Turned<A> {
     ghost kept = { λ t. three_advise.2 (A.Adviser.advice t.inner) (A.Adviser.kept t.inner) };
 
     fn unknowns(&self) -> usize {
-        self.count()
+        self.inner.unknowns()
     }
 
-    fn ask(&self, lows: &[i32], highs: &[i32]) -> Option<(usize, Side)> {
-        turned_choice(self.inner.ask(lows, highs))
+    fn ask(&self, ends: Ends<'_>) -> Option<(usize, Side)> {
+        self.inner
+            .ask(ends)
+            .map(|(unknown, side)| (unknown, other(side)))
     }
 
+    #[tactic(auto, using(crate::proofs::Turning::told_turned))]
     fn told(&mut self, unknown: usize) {
-        self.tell_inner(unknown);
+        self.inner.told(unknown);
     }
 }

@@ -5,23 +5,10 @@ ghost use Rattle.cutlog.specs.Books.{book_of, memory_after, memory_of, past};
 ghost use Rattle.cutlog.specs.Kept.{numbers_keep};
 
 use super::Numbers;
-use super::cells::{HEAD, fields_at, i32_at};
+use super::cells::{entry_of, fields_of};
+use crate::appending::next_line;
 use crate::logs::Log;
-use crate::shapes::is_shaped;
-use calculus::{Fields, Refusal};
-
-// Fields that are all 0.
-fn no_fields() -> Fields
-    ensures { result ≡ record { kind = 0; i = 0; j = 0; k = 0; m = 0 } }
-{
-    Fields {
-        kind: 0,
-        i: 0,
-        j: 0,
-        k: 0,
-        m: 0,
-    }
-}
+use calculus::{Fields, MAX_LINES, Refusal};
 
 impl Log for Numbers {
     ghost book = { book_of };
@@ -29,15 +16,16 @@ impl Log for Numbers {
     ghost kept = { numbers_keep };
 
     fn unknowns(&self) -> usize {
-        self.width()
+        self.unknowns
     }
 
     fn capacity(&self) -> usize {
-        self.room()
+        (self.cells.len() / self.line_size()).min(MAX_LINES)
     }
 
+    #[tactic(auto, using(crate::specs::Kept::lines_long))]
     fn count(&self) -> usize {
-        self.lines()
+        self.held
     }
 
     // Writes nothing.
@@ -49,34 +37,25 @@ impl Log for Numbers {
     }
 
     // Writes the numbers of the new line, and no other.
+    #[tactic(auto, using(crate::specs::Kept::lines_long))]
     fn add(&mut self, fields: Fields, row: &[i32]) -> Result<usize, Refusal>
         ensures answer { result ≡ append_answer (book_of self.old) row.now }
         ensures book { book_of self.new ≡ appended (book_of self.old) fields row.now }
         ensures memory { memory_of self.new ≡ memory_after self.old fields row.now }
         ensures untouched { past self.new (memory_of self.new) ≡ past self.new (memory_of self.old) }
     {
-        if !is_shaped(row, self.unknowns) {
-            return Err(Refusal::Shape);
-        }
-        let line = self.lines();
-        if line >= self.room() {
-            return Err(Refusal::Log);
-        }
+        let line = next_line(row, self.unknowns(), self.count(), self.capacity())?;
         self.push(fields, row);
         Ok(line)
     }
 
     fn fields(&self, line: usize) -> Fields {
-        if line >= self.lines() {
-            return no_fields();
-        }
-        fields_at(self.cells.as_slice(), self.start(line))
+        self.line(line)
+            .map(|(head, _)| fields_of(head))
+            .unwrap_or_default()
     }
 
     fn entry(&self, line: usize, place: usize) -> i32 {
-        if line >= self.lines() || place > self.unknowns {
-            return 0;
-        }
-        i32_at(self.cells.as_slice(), self.start(line) + HEAD + place)
+        self.line(line).map_or(0, |(_, row)| entry_of(row, place))
     }
 }

@@ -26,9 +26,9 @@ impl Numbers {
         ensures memory { memory_of self.new ≡ memory_with self.old fields row.now }
         ensures untouched { past self.new (memory_of self.new) ≡ past self.new (memory_of self.old) }
     {
-        let line = self.lines();
-        let place = self.start(line);
-        write_line(self.cells.as_mut_slice(), place, fields, row);
-        self.hold(line + 1);
+        let place = self.start(self.held);
+        let end = place + self.line_size();
+        write_line(&mut self.cells[place..end], fields, row);
+        self.hold(self.held + 1);
     }
 }

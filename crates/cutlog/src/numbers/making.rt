@@ -27,11 +27,7 @@ impl Numbers {
     pub fn into_cells(self) -> Vec<i64>
         ensures { result.items ≡ memory_of self }
     {
-        let Numbers {
-            cells,
-            unknowns: _,
-            held: _,
-        } = self;
+        let Numbers { cells, .. } = self;
         cells
     }
 }

@@ -1,43 +1,22 @@
-// How many lines there are and may be, and where they begin.
-ghost use Rattle.std.specs.Prelude.{◌≡◌, ◌*◌, ◌≤◌, vec_len};
-ghost use Rattle.calculus.specs.Limits.{most_lines, most_unknowns};
-ghost use Rattle.cutlog.specs.Cells.{fitting, line_size};
+// How long a line is, where lines begin, and what they are made of.
+ghost use Rattle.std.specs.Prelude.{◌≡◌, ◌*◌, ◌≤◌, MatchOption};
+ghost use Rattle.calculus.specs.Limits.{most_lines};
+ghost use Rattle.calculus.specs.Logs.{line_at, no_line};
+ghost use Rattle.cutlog.specs.Books.{book_of};
+ghost use Rattle.cutlog.specs.Cells.{Spells, line_size};
 
 use super::Numbers;
 use super::cells::HEAD;
-use calculus::MAX_LINES;
 
 // The numbers of a line beside its coefficients: the fields and the constant.
 const BESIDE: usize = HEAD + 1;
 
-// How many lines for so many unknowns fit so many numbers.
-fn fitting_lines(unknowns: usize, numbers: usize) -> usize
-    requires { unknowns ≤ most_unknowns }
-    ensures { result ≡ fitting unknowns numbers }
-{
-    (numbers / (unknowns + BESIDE)).min(MAX_LINES)
-}
-
 impl Numbers {
-    // For how many unknowns.
-    pub(super) fn width(&self) -> usize
-        ensures { result ≡ self.now.unknowns }
+    // How many numbers a line takes.
+    pub(super) fn line_size(&self) -> usize
+        ensures { result ≡ line_size self.now.unknowns }
     {
-        self.unknowns
-    }
-
-    // How many lines fit.
-    pub(super) fn room(&self) -> usize
-        ensures { result ≡ fitting self.now.unknowns (vec_len self.now.cells) }
-    {
-        fitting_lines(self.unknowns, self.cells.len())
-    }
-
-    // How many lines are held.
-    pub(super) fn lines(&self) -> usize
-        ensures { result ≡ self.now.held }
-    {
-        self.held
+        self.unknowns + BESIDE
     }
 
     // Where a line begins.
@@ -45,6 +24,18 @@ impl Numbers {
         requires { line ≤ most_lines }
         ensures { result ≡ line * line_size self.now.unknowns }
     {
-        line * (self.unknowns + BESIDE)
+        line * self.line_size()
+    }
+
+    // The numbers of a held line: those of its fields, and those of its row.
+    #[tactic(auto, using(crate::proofs::Held::line_past))]
+    pub(super) fn line(&self, line: usize) -> Option<(&[i64; HEAD], &[i64])>
+        ensures { MatchOption result (line_at (book_of self.now).lines line ≡ no_line) (λ p. Spells (line_at (book_of self.now).lines line) p.0.now p.1.now) }
+    {
+        if line >= self.held {
+            return None;
+        }
+        let start = self.start(line);
+        self.cells[start..start + self.line_size()].split_first_chunk()
     }
 }

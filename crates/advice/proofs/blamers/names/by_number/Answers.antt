@@ -1,11 +1,7 @@
-use Rattle.std.proofs.Common.{vec_items, arith}
-use Rattle.advice.proofs.Fronts.{number_next}
+use Rattle.std.proofs.Common.{refl, arith}
+use Rattle.std.proofs.lemmas.Iterator.{YieldsList-from_range, items_from_collect}
 use Rattle.advice.proofs.blamers.names.by_number.Goals as goal
 
-pub loop-unknown-preserved : goal.loop-unknown-preserved
-loop-unknown-preserved c = (
-  number_next (vec_items c.loop-unknown.names) (vec_items c.push_reserved.new.self) c.loop-unknown.unknown
-      c.push_reserved.ensures.items c.loop-unknown.invariant.0,
-  omega arith,
-  omega arith,
-)
+pub returns : goal.returns
+returns c =
+    items_from_collect c.collect.result c.collect.ensures.ran (YieldsList-from_range 0 c.args.unknowns c.args.unknowns refl (omega arith))

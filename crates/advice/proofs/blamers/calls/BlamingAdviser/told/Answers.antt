@@ -1,18 +1,12 @@
-use Rattle.std.proofs.Common.{vec_items}
-use Rattle.advice.proofs.Fronts.{told_front, front_orderly, told_nowhere}
+use Rattle.std.proofs.Common.{vec_items, ◌∙◌, rules}
+use Rattle.std.proofs.lemmas.List.{with_items_is}
+use Rattle.advice.proofs.Fronts.{front_orderly}
 use Rattle.advice.proofs.blamers.calls.BlamingAdviser.told.Goals as goal
 
-pub returns-in_default : goal.returns-in_default
-returns-in_default c =
-    told_nowhere (vec_items c.args.self.now.names) c.args.unknown c.args.self.now.orderly c.in_default.ensures
-
 pub invariant_of-self : goal.invariant_of-self
-invariant_of-self c = record {
-  orderly = front_orderly (vec_items c.args.self.now.names) (vec_items c.move_to_front.new.names) c.in-Some.place c.args.unknown
-      c.args.self.now.orderly c.in-Some.ensures c.move_to_front.ensures;
-}
-
-pub returns : goal.returns
-returns c =
-    told_front (vec_items c.args.self.now.names) (vec_items c.move_to_front.new.names) c.in-Some.place c.args.unknown
-    c.args.self.now.orderly c.in-Some.ensures c.move_to_front.ensures
+invariant_of-self c =
+    let v = c.args.self.now.names in
+    record {
+      orderly = front_orderly (vec_items v) _ c.in-Some.place c.args.unknown c.args.self.now.orderly (search rules)
+          (with_items_is v c.move_to_front.new.names (search rules) ∙ search rules);
+    }

@@ -1,34 +1,29 @@
-use Rattle.std.proofs.Common.{sym, ◌∙◌, le_trans}
+use Rattle.std.proofs.Common.{◌≡◌, not, sym, refl, ap, ◌∙◌, arith, rules, tests}
+use Rattle.std.specs.List.{range_with_len}
+use Rattle.std.specs.Option.{option_map}
+use Rattle.std.proofs.lemmas.Iterator.{YieldsList-from_range}
+use Rattle.std.proofs.lemmas.Iterator.Search.{find_from_yields_List}
+use Rattle.std.proofs.lemmas.List.FromFn.{length-range_with_len}
+use Rattle.calculus.specs.Advice.{Order, choice}
 use Rattle.calculus.proofs.Advising.{three_advised}
-use Rattle.advice.proofs.Opens.{numbered, numbered_none, numbered_some, asked, unasked_low, unasked_high}
+use Rattle.advice.specs.Names.{on_low}
+use Rattle.advice.proofs.Opens.{fixed, by_number, choice_first, choice_none}
 use Rattle.advice.proofs.steadies.calls.SteadyAdviser.ask.Goals as goal
-use Rattle.advice.proofs.steadies.calls.SteadyAdviser.ask.Goals.{then-lows-self-via-then-lows-self}
-use Rattle.advice.proofs.steadies.calls.SteadyAdviser.ask.Goals.{then-lows-self-via-else-lows-self+then-highs-self}
 
-pub returns-then-lows-self : goal.returns-then-lows-self
-returns-then-lows-self c =
+pub returns-then-not-have_length : goal.returns-then-not-have_length
+returns-then-not-have_length c =
     let m = c.args.self.now.unknowns in
-    let lows = c.args.lows.now in
-    let highs = c.args.highs.now in
-    let long = three_advised.0 m in
-    elim c.then-lows-self.branch [
-      | then-lows-self-via-then-lows-self w ↦ sym (unasked_low (numbered m) m lows highs long w.if-lows-self.true)
-      | then-lows-self-via-else-lows-self+then-highs-self w ↦ sym (unasked_high (numbered m) m lows highs long w.if-highs-self.true)
-    ]
-
-pub returns-then-not-is_fixed : goal.returns-then-not-is_fixed
-returns-then-not-is_fixed c =
-    let m = c.args.self.now.unknowns in
-    let lows = c.args.lows.now in
-    let highs = c.args.highs.now in
-    sym (asked (numbered m) m lows highs (three_advised.0 m) c.if-lows-self.false c.if-highs-self.false
-    ∙ numbered_some m c.loop-unknown.unknown lows highs c.loop-unknown-test.true c.loop-unknown.invariant
-    (sym c.if-not-is_fixed.ensures))
+    choice_none _ c.args.ends.lows.now c.args.ends.highs.now m (sym (three_advised.0 m)) c.if-not-have_length.ensures
 
 pub returns : goal.returns
 returns c =
     let m = c.args.self.now.unknowns in
-    let lows = c.args.lows.now in
-    let highs = c.args.highs.now in
-    sym (asked (numbered m) m lows highs (three_advised.0 m) c.if-lows-self.false c.if-highs-self.false
-    ∙ numbered_none m lows highs (λ x l. c.loop-unknown.invariant x (le_trans l c.loop-unknown-test.false)))
+    let lows = c.args.ends.lows.now in
+    let highs = c.args.ends.highs.now in
+    let low : c.map.result ≡ option_map on_low c.find.result = search rules in
+    low
+    ∙ choice_first (λ x. x) c.find.result (range_with_len 0 m) lows highs m
+    (find_from_yields_List (λ x. not (fixed lows highs x)) _ _ c.find.result c.find.ensures.ran (YieldsList-from_range 0 m m refl (omega arith))
+    (λ x b q k. search (rules, tests)))
+    (sym (length-range_with_len 0 m)) c.if-not-have_length.ensures
+    ∙ ap (λ (o : Order). choice o lows highs) (by_number on_low m)

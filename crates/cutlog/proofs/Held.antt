@@ -1,7 +1,9 @@
 -- The lines that a list of numbers holds: how many, which, and one more.
-use Rattle.std.specs.Prelude.{◌≡◌, ℕ, zero, suc, ◌+◌, ◌*◌, ◌/◌, ◌^◌, ◌<◌, ◌≤◌, Bool, cond, List, [], ◌∷◌, ◌++◌, length, take, drop, ℤ, pos, Some, None, Option, MatchOption, slice_index_or, slice_range, refl}
+use Rattle.std.specs.Prelude.{◌≡◌, ℕ, zero, suc, ◌+◌, ◌*◌, ◌/◌, ◌^◌, ◌<◌, ◌≤◌, Bool, cond, List, [], ◌∷◌, ◌++◌, length, take, drop, ℤ, pos, negsuc, FitsSigned, Some, None, Option, MatchOption, slice_index_or, slice_range, refl}
 use Rattle.std.proofs.Common.{⊎_elim, sym, ap, ◌∙◌, div-mul-le_self, mul-le-mul_right, suc-mul, add-one, arith, rules, lt-ltb}
 use Rattle.std.proofs.Math.Seq.{paste}
+use Rattle.std.specs.Int.{w32}
+use Rattle.std.proofs.lemmas.Int.{ints}
 use Rattle.std.proofs.lemmas.List.{ext_get_or, get_or_append_left, get_or_at, get_or_past, get_or-take, get_or-drop, places, length_push, length-take-le}
 use Rattle.std.proofs.lemmas.List.Edits.{length-between, get_or-between}
 use Rattle.std.proofs.lemmas.Bool.{cases_eq, cases_lt}
@@ -52,6 +54,10 @@ entry_past n cs at e l =
     let long = table_long (λ e. entry_in (coef cs (at + e))) n in
     let more = length_push r.coefs r.constant in
     get_or_past (entries r) e (pos 0) (omega arith)
+
+pub entry_none : (e : ℕ) → coef (entries no_line.row) e ≡ pos 0
+entry_none zero = refl
+entry_none (suc e) = refl
 
 -- ---- where a line lies
 
@@ -125,6 +131,10 @@ line_spells n held q cs s front rest l fits e f r =
 
 unsigned_back : (bits x : ℕ) → x < 2 ^ bits → unsigned_in bits (pos x) ≡ x
 unsigned_back bits x l = ap (λ (b : Bool). cond b x 0) (lt-ltb x (2 ^ bits) l)
+
+pub entry_back : (x : ℤ) → FitsSigned w32 x → entry_in x ≡ x
+entry_back (pos x) f = let l : x < 2 ^ 31 = omega (arith, ints) in ap (λ (b : Bool). cond b (pos x) (pos 0)) (lt-ltb x (2 ^ 31) l)
+entry_back (negsuc x) f = let l : x < 2 ^ 31 = omega (arith, ints) in ap (λ (b : Bool). cond b (negsuc x) (pos 0)) (lt-ltb x (2 ^ 31) l)
 
 -- a line that two lists hold alike
 line_same : (n : ℕ) (cs ds : List ℤ) (q : ℕ) → ((x : ℕ) → x < q * line_size n + line_size n → coef cs x ≡ coef ds x) →

@@ -1,10 +1,10 @@
 -- The lines that a list of numbers holds: how many, which, and one more.
 use Rattle.std.specs.Prelude.{◌≡◌, ℕ, zero, suc, ◌+◌, ◌*◌, ◌/◌, ◌^◌, ◌<◌, ◌≤◌, Bool, cond, List, [], ◌∷◌, ◌++◌, length, take, drop, ℤ, pos, negsuc, FitsSigned, Some, None, Option, MatchOption, slice_index_or, slice_range, refl}
-use Rattle.std.proofs.Common.{⊎_elim, sym, ap, ◌∙◌, div-mul-le_self, mul-le-mul_right, suc-mul, add-one, arith, rules, lt-ltb}
+use Rattle.std.proofs.Common.{⊎_elim, sym, ap, ◌∙◌, div-mul-le_self, mul-le-mul_right, suc-mul, add-one, arith, lt-ltb}
 use Rattle.std.proofs.Math.Seq.{paste}
 use Rattle.std.specs.Int.{w32}
 use Rattle.std.proofs.lemmas.Int.{ints}
-use Rattle.std.proofs.lemmas.List.{ext_get_or, get_or_append_left, get_or_at, get_or_past, get_or-take, get_or-drop, places, length_push, length-take-le}
+use Rattle.std.proofs.lemmas.List.{ext_get_or, get_or_append_left, get_or_at, get_or_past, get_or-take, get_or-drop, length_push, length-take-le}
 use Rattle.std.proofs.lemmas.List.Edits.{length-between, get_or-between}
 use Rattle.std.proofs.lemmas.Bool.{cases_eq, cases_lt}
 use Rattle.calculus.specs.Logs.{Line, entries, line_at, no_line, row_of}
@@ -15,6 +15,7 @@ use Rattle.calculus.specs.declared.kinds.Fields.{Fields}
 use Rattle.calculus.proofs.Tabling.{table_long, table_at}
 use Rattle.cutlog.specs.Cells.{Spells, line_size, fitting, unsigned_in, entry_in, ReadsBack, fields_in, row_in, line_in, lines_in, spelled}
 use Rattle.cutlog.specs.Kept.{lines_long}
+use Rattle.cutlog.proofs.Pastes.{paste_before, paste_within}
 
 -- ---- lists by place
 
@@ -172,12 +173,6 @@ line_new n q cs f row w back len h =
     let entries : row_in n cs (b + 5) ≡ row_of n row = λ x. record { coefs = sym coefs x; constant = last x } in
     λ x. record { fields = fields x; row = entries x }
 
-paste_before : (d s : List ℤ) (at n x : ℕ) → x < at → at ≤ length d → coef (paste d at s n) x ≡ coef d x
-paste_before d s at n x l h = search (rules, places)
-
-paste_within : (d s : List ℤ) (at n x j : ℕ) → x ≡ at + j → j < n → at ≤ length d → n ≤ length s → coef (paste d at s n) x ≡ coef s j
-paste_within d s at n x j e l h k = search (rules, places)
-
 -- one line more, written behind the held ones
 pub lines_more : (n c : ℕ) (cs ds : List ℤ) (f : Fields) (row : List ℤ) → FieldsFit f → ReadsBack row →
     length row ≡ suc n → c * line_size n + line_size n ≤ length cs → ds ≡ paste cs (c * line_size n) (spelled f row) (line_size n) →
@@ -186,8 +181,8 @@ lines_more n c cs ds f row w back len fits e =
     let at : ℕ = c * line_size n in
     let before = table_same (line_in n ds) (line_in n cs) c
     (λ q l. line_same n ds cs q (λ x k. let i = line_inside n q c l in
-    ap (λ ws. coef ws x) e ∙ paste_before cs (spelled f row) at (line_size n) x (omega arith) (omega arith))) in
+    ap (λ ws. coef ws x) e ∙ paste_before cs (spelled f row) at (line_size n) x (pos 0) (omega arith) (omega arith))) in
     let here = line_new n c ds f row w back len
-    (λ x j p l. ap (λ ws. coef ws x) e ∙ paste_within cs (spelled f row) at (line_size n) x j p l (omega arith) (omega arith)) in
+    (λ x j p l. ap (λ ws. coef ws x) e ∙ paste_within cs (spelled f row) at (line_size n) x j (pos 0) p l (omega arith) (omega arith)) in
     let s = ap (table (line_in n ds)) (add-one c) in
     cc

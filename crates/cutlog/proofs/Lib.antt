@@ -1,3 +1,4 @@
+mod Pastes
 pub mod Held
 pub mod Adding
 pub mod Narrowing

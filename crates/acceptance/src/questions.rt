@@ -19,7 +19,7 @@ fn sample(heap: Global) -> Result<Ticket, AllocError> {
 
 fn has_row(ticket: &Ticket, place: usize, label: u8, coefficients: &[i32], constant: i32) -> bool {
     ticket.rows().row(place).is_some_and(|row| {
-        row.label() == label && row.coefficients() == coefficients && row.constant() == constant
+        row.label == label && row.coefficients == coefficients && row.constant == constant
     })
 }
 

@@ -1,7 +1,7 @@
 // How a run ends, and why a log is not accepted.
 use super::refusals::Refusal;
 
-// The answer of a run.
+// The answer of a run: one of the three that are printed. A Result of a two-valued answer would say it in two steps.
 #[derive(Clone, Copy, Debug, PartialEq, Eq)]
 pub enum Ending {
     Plan,

@@ -52,7 +52,7 @@ impl Day {
     {
         if let (Command::Rows, Stage::Settled(ticket)) = (command, &self.stage) {
             for row in ticket.rows().rows() {
-                writeln!(out, "{row}")?;
+                writeln!(out, "{}", row.view())?;
             }
         }
         Ok(())

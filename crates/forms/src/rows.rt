@@ -1,16 +1,36 @@
-// A row under its label.
-ghost use Rattle.std.specs.Prelude.{◌≡◌, ◌∷◌, [], Some, nat_lt, length};
-ghost use Rattle.calculus.specs.Account.{answered, standing, when};
+// A row under its label, lent and held.
+ghost use Rattle.std.specs.Prelude.{◌≡◌, ◌≤◌, Some, length};
 ghost use Rattle.calculus.specs.Limits.{most_unknowns};
 ghost use Rattle.calculus.specs.Wording.{row_worded};
-ghost use Rattle.calculus.specs.declared.refusals.Refusal.TheVariants.{Shape};
+ghost use Rattle.forms.specs.Seen.{seen};
 
 use arrayvec::ArrayVec;
-use calculus::{MAX_UNKNOWNS, Refusal};
+use calculus::MAX_UNKNOWNS;
 use std::fmt;
 use std::marker::Model;
 
-// The row lies in the value itself, with room for as many coefficients as a ticket may have unknowns.
+// A row that is lent.
+#[derive(Clone, Copy)]
+pub struct RowView<'a> {
+    pub label: u8,
+    pub coefficients: &'a [i32],
+    pub constant: i32,
+}
+
+// The label, the coefficients and the constant, with single spaces between.
+impl<'a> fmt::Display for RowView<'a> {
+    ghost output = { λ v. Some (row_worded v.label v.coefficients.now v.constant) };
+
+    fn fmt<W: fmt::Write>(&self, f: &mut fmt::Formatter<W>) -> fmt::Result {
+        write!(f, "{}", self.label)?;
+        for coefficient in self.coefficients {
+            write!(f, " {coefficient}")?;
+        }
+        write!(f, " {}", self.constant)
+    }
+}
+
+// A row that is held. It lies in the value itself, with room for as many coefficients as a ticket may have unknowns.
 #[derive(Drop)]
 pub struct Row {
     label: u8,
@@ -28,53 +48,26 @@ impl Model for Row {
 }
 
 impl Row {
-    // A row that is given; one of more coefficients than a ticket may have unknowns is refused.
-    pub fn new(label: u8, coefficients: &[i32], constant: i32) -> Result<Row, Refusal>
-        ensures { result ≡ answered (when (nat_lt most_unknowns (length coefficients.now)) Shape ∷ []) (standing label coefficients.now constant) }
+    // The row that is lent, to be held.
+    pub fn of(view: RowView<'_>) -> Row
+        requires { length view.coefficients.now ≤ most_unknowns }
+        ensures { result ≡ seen view.entry }
     {
-        let Ok(coefficients) = ArrayVec::try_from(coefficients) else {
-            return Err(Refusal::Shape);
-        };
-        Ok(Row {
-            label,
-            coefficients,
-            constant,
-        })
-    }
-
-    pub fn label(&self) -> u8
-        ensures { result ≡ self.now.label }
-    {
-        self.label
-    }
-
-    pub fn coefficients(&self) -> &[i32]
-        ensures { result.now ≡ self.now.row.coefs }
-    {
-        self.coefficients.as_slice()
-    }
-
-    pub fn constant(&self) -> i32
-        ensures { result ≡ self.now.row.constant }
-    {
-        self.constant
-    }
-}
-
-// The label, the coefficients and the constant, with single spaces between.
-impl fmt::Display for Row {
-    ghost output = { λ r. Some (row_worded r.label r.row.coefs r.row.constant) };
-
-    fn fmt<W: fmt::Write>(&self, f: &mut fmt::Formatter<W>) -> fmt::Result {
-        let Row {
-            label,
-            coefficients,
-            constant,
-        } = self;
-        write!(f, "{label}")?;
-        for coefficient in coefficients.as_slice() {
-            write!(f, " {coefficient}")?;
+        Row {
+            label: view.label,
+            coefficients: ArrayVec::try_from(view.coefficients).unwrap(),
+            constant: view.constant,
         }
-        write!(f, " {constant}")
+    }
+
+    // The row that is held, lent.
+    pub fn view(&self) -> RowView<'_>
+        ensures { seen result ≡ self.now }
+    {
+        RowView {
+            label: self.label,
+            coefficients: self.coefficients.as_slice(),
+            constant: self.constant,
+        }
     }
 }

@@ -3,5 +3,5 @@
 
 mod store;
 
-pub use forms::Row;
+pub use forms::{Row, RowView};
 pub use store::{Blank, Rows};

@@ -26,7 +26,8 @@ pub(crate) struct Mark {
     ghost few: { rows ≤ most_rows },
 }
 
-// The ranges declared so far, and the memory for the rows and marks to come. A contract sees the ranges.
+// The ranges declared so far, and the memory for the rows and marks to come. A contract sees the ranges. It has the parts of `Rows` and is
+// a type of its own, so that what declares cannot add and what adds cannot declare.
 #[derive(Drop)]
 pub struct Blank {
     spans: Vec<Span>,

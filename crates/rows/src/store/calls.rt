@@ -4,10 +4,11 @@ ghost use Rattle.calculus.specs.Account.{add_answer, added, heavy, mark_answer, 
 ghost use Rattle.calculus.specs.Arithmetic.{near};
 ghost use Rattle.calculus.specs.Limits.{added_constant_limit};
 ghost use Rattle.calculus.specs.Rows.{doubled};
+ghost use Rattle.forms.specs.Seen.{seen};
 
 use super::{Mark, Rows};
 use calculus::{MAX_COEFFICIENT, MAX_CONSTANT, MAX_MARKS, MAX_ROWS, Refusal};
-use forms::{Row, is_near};
+use forms::{Row, RowView, is_near};
 
 // Whether a coefficient of the list lies outside its limits.
 fn has_heavy(coefficients: &[i32]) -> bool
@@ -27,10 +28,10 @@ fn is_overweight(coefficients: &[i32], constant: i64) -> bool
 
 impl Rows {
     // Whether a double of the row stands.
-    fn has_double(&self, added: &Row) -> bool
-        ensures { result ≡ doubled self.now.rows added.now }
+    fn has_double(&self, added: RowView<'_>) -> bool
+        ensures { result ≡ doubled self.now.rows (seen added.entry) }
     {
-        self.rows.iter().any(|row| row.is_double(added))
+        self.rows.iter().any(|row| row.view().is_double(added))
     }
 
     // One row more, kept as it is given.
@@ -47,14 +48,18 @@ impl Rows {
         if label == 0 {
             return Err(Refusal::Label);
         }
-        let row = Row::new(label, coefficients, constant as i32)?;
-        if self.has_double(&row) {
+        let row = RowView {
+            label,
+            coefficients,
+            constant: constant as i32,
+        };
+        if self.has_double(row) {
             return Err(Refusal::Double);
         }
         if self.rows.len() >= MAX_ROWS {
             return Err(Refusal::Full);
         }
-        self.rows.push_reserved(row);
+        self.rows.push_reserved(Row::of(row));
         Ok(())
     }
 

@@ -1,50 +1,61 @@
 // Questions, which change nothing.
-ghost use Rattle.std.specs.Prelude.{◌≡◌, length, option_copied, slice_get};
+ghost use Rattle.std.specs.Prelude.{◌≡◌, ◌≤◌, ◌≤ℤ◌, All, IfSome, length, slice_get, unsigned_abs};
+ghost use Rattle.std.specs.Option.{option_map};
+ghost use Rattle.calculus.specs.Limits.{end_limit, most_marks, most_rows, most_unknowns};
+ghost use Rattle.calculus.specs.Rows.{Standing};
+ghost use Rattle.forms.specs.Seen.{seen};
 
 use super::Rows;
 use calculus::Range;
-use forms::Row;
+use forms::{Row, RowView};
 
 impl Rows {
     // The number of unknowns.
     pub fn unknowns(&self) -> usize
-        ensures { result ≡ length self.now.ranges }
+        ensures value { result ≡ length self.now.ranges }
+        ensures few { result ≤ most_unknowns }
     {
         self.spans.len()
     }
 
     // The range of an unknown, where there is one of that number.
     pub fn range(&self, unknown: usize) -> Option<Range>
-        ensures { result ≡ slice_get self.now.ranges unknown }
+        ensures value { result ≡ slice_get self.now.ranges unknown }
+        ensures ordered { IfSome result (λ r. r.low ≤ℤ r.high) }
+        ensures near { IfSome result (λ r. (unsigned_abs r.low ≤ end_limit) × (unsigned_abs r.high ≤ end_limit)) }
     {
         self.spans.get(unknown).map(|span| span.range)
     }
 
     // How many rows stand.
     pub fn len(&self) -> usize
-        ensures { result ≡ length self.now.rows }
+        ensures value { result ≡ length self.now.rows }
+        ensures few { result ≤ most_rows }
     {
         self.rows.len()
     }
 
     // How many marks stand.
     pub fn marks(&self) -> usize
-        ensures { result ≡ length self.now.marks }
+        ensures value { result ≡ length self.now.marks }
+        ensures few { result ≤ most_marks }
     {
         self.marks.len()
     }
 
     // The standing rows, in the order added.
     pub fn rows(&self) -> &[Row]
-        ensures { result.now ≡ self.now.rows }
+        ensures value { result.now ≡ self.now.rows }
+        ensures wide { All (λ (s : Standing). length s.row.coefs ≡ length self.now.ranges) result.now }
     {
         self.rows.as_slice()
     }
 
     // The standing row at a place, in the order added, from 0.
-    pub fn row(&self, place: usize) -> Option<&Row>
-        ensures { option_copied result ≡ slice_get self.now.rows place }
+    pub fn row(&self, place: usize) -> Option<RowView<'_>>
+        ensures value { option_map seen result ≡ slice_get self.now.rows place }
+        ensures wide { IfSome result (λ v. length v.coefficients.now ≡ length self.now.ranges) }
     {
-        self.rows.get(place)
+        self.rows.get(place).map(Row::view)
     }
 }

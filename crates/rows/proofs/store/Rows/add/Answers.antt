@@ -6,8 +6,8 @@ use Rattle.rows.proofs.store.Rows.add.Goals as goal
 
 pub invariant_of-self : goal.invariant_of-self
 invariant_of-self c =
-    let given : c.in_ok-row.row.row.coefs ≡ c.args.coefficients.now = search rules in
-    let wide : length c.in_ok-row.row.row.coefs ≡ vec_len c.self.inside.spans = grind (arith, common_steps, given) in
+    let given : c.of.result.row.coefs ≡ c.args.coefficients.now = search rules in
+    let wide : length c.of.result.row.coefs ≡ vec_len c.self.inside.spans = grind (arith, common_steps, given) in
     record {
       spans_few = c.self.invariant.spans_few;
       rows_few = omega (arith, c.push_reserved.ensures.len, c.if-len-ge-MAX_ROWS.false);

@@ -31,14 +31,14 @@ pub enum Refusal {
 }
 
 impl Refusal {
-    // The refusal's number.
+    // The refusal's number: a number, and no type, since it is what answers print.
     pub fn number(self) -> u8
         ensures { result ≡ (listed self).number }
     {
         self as u8
     }
 
-    // The refusal's word.
+    // The refusal's word. Unlike `Display`, which writes number and word, this cannot fail.
     pub fn word(self) -> &'static str
         ensures { result.now ≡ (listed self).word }
     {

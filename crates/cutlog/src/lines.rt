@@ -7,7 +7,8 @@ ghost use Rattle.calculus.specs.Tables.{table};
 use crate::logs::Log;
 use calculus::{Kind, Refusal};
 
-// Adds a line of a kind; answers its number, which other lines can be made from.
+// Adds a line of a kind; answers its number, which other lines can be made from. No log holds so many that the cast loses any: `try_from` would
+// need an answer to what cannot come.
 pub fn add_line<L: Log>(log: &mut L, kind: Kind, row: &[i32]) -> Result<u16, Refusal>
     ensures answer { result ≡ append_answer (L.Log.book log.old) row.now }
     ensures book { L.Log.book log.new ≡ appended (L.Log.book log.old) (fields_of kind) row.now }

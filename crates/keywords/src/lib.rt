@@ -18,7 +18,7 @@ pub enum Later {
 }
 
 impl Later {
-    // The word of the command.
+    // The word of the command. Unlike `Display`, this cannot fail.
     pub fn word(self) -> &'static str
         ensures { result.now ≡ later_word self }
     {

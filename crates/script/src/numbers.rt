@@ -58,7 +58,7 @@ pub(crate) fn read_wide(text: &[u8]) -> Option<i64>
     }
 }
 
-// The number of 32 bits with sign that is nearest to n.
+// The number of 32 bits with sign that is nearest to n. The cast of what is clamped loses nothing.
 fn shortened(n: i64) -> i32
     ensures { result ≡ saturate_to_bits 31 n }
 {

@@ -28,7 +28,8 @@ impl Ticket {
         Ticket { rows }
     }
 
-    // Adds a row: label 1 to 255, one coefficient for each unknown, and a constant.
+    // Adds a row: label 1 to 255, one coefficient for each unknown, and a constant. Three parameters, as stations give them: the constant is wider
+    // here than in a row that stands.
     pub fn add(&mut self, label: u8, coefficients: &[i32], constant: i64) -> Result<(), Refusal>
         ensures answer { result ≡ add_answer self.old label coefficients.now constant }
         ensures account { self.new ≡ added self.old label coefficients.now constant }

@@ -8,7 +8,7 @@ use super::super::ends::Ends;
 use super::Turned;
 use calculus::Side;
 
-// The other side.
+// The other side. A `match` says it in the two words of the rule; an operator of `Side` would hide them.
 fn other(side: Side) -> Side
     ensures { result ≡ turned_side side }
 {

@@ -34,7 +34,7 @@ impl Rows {
         self.rows.iter().any(|row| row.view().is_double(added))
     }
 
-    // One row more, kept as it is given.
+    // One row more, kept as it is given. The constant is within its limits where it is cast, so `try_from` would answer what cannot come.
     pub fn add(&mut self, label: u8, coefficients: &[i32], constant: i64) -> Result<(), Refusal>
         ensures answer { result ≡ add_answer self.old label coefficients.now constant }
         ensures account { self.new ≡ added self.old label coefficients.now constant }

@@ -2,7 +2,7 @@
 //
 // In a table, `= NAME` begins a case, `> LINE` is a line of its script, `>. LINE` one without a newline, `< LINE` a line
 // that is to be printed and `! TEXT` the message. `>*N` and `<*N` give the line N times, with the count for `@`.
-ghost use Rattle.std.specs.Prelude.{◌≡◌, true, option_map, string_bytes};
+ghost use Rattle.std.specs.Prelude.{◌≡◌, true, option_copied, option_map, string_bytes};
 
 use anyhow::bail;
 use day::run_script;
@@ -15,9 +15,10 @@ pub(crate) struct Found {
     pub(crate) message: Option<String>,
 }
 
+// Lines that stand before the first name make a case without one, which is not run.
 #[derive(Drop)]
 pub(crate) struct Case {
-    name: String,
+    name: Option<String>,
     script: String,
     due: Found,
 }
@@ -55,31 +56,36 @@ fn push_lines(heap: Global, out: &mut String, rest: &str) -> anyhow::Result<()> 
 }
 
 impl Case {
-    pub(crate) fn new(heap: Global, name: &str) -> Result<Case, AllocError> {
-        Ok(Case {
-            name: String::from_str(heap, name)?,
+    pub(crate) fn new(heap: Global) -> Case {
+        Case {
+            name: None,
             script: String::new(heap),
             due: Found {
                 answers: String::new(heap),
                 message: None,
             },
-        })
+        }
     }
 
-    pub(crate) fn name(&self) -> &str
-        ensures { result.now ≡ string_bytes self.now.name }
+    pub(crate) fn name(&self) -> Option<&String>
+        ensures { option_copied result ≡ self.now.name }
     {
-        self.name.as_str()
+        self.name.as_ref()
     }
 
-    // One line of a table after the case's name.
+    // One line of a table.
     pub(crate) fn take(&mut self, heap: Global, line: &str) -> anyhow::Result<()> {
-        if let Some(rest) = line.strip_prefix('>') {
+        if let Some(name) = line.strip_prefix("= ") {
+            self.name = Some(String::from_str(heap, name)?);
+        } else if let Some(rest) = line.strip_prefix('>') {
             push_lines(heap, &mut self.script, rest)?;
         } else if let Some(rest) = line.strip_prefix('<') {
             push_lines(heap, &mut self.due.answers, rest)?;
         } else if let Some(text) = line.strip_prefix("! ") {
-            self.due.message = Some(String::from_str(heap, text)?);
+            self.due
+                .message
+                .get_or_insert_with(|| String::new(heap))
+                .push_str(text)?;
         } else if !line.is_empty() && !line.starts_with('#') {
             bail!("a line of a table begins with no mark");
         }

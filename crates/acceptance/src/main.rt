@@ -31,13 +31,15 @@ impl Tally {
     }
 }
 
-// Runs one case, and says what came out where it is wrong.
+// Runs one case, if it has a name, and says what came out where it is wrong.
 fn judge(rt: &HostRuntime, tally: &mut Tally, case: &Case) -> anyhow::Result<()> {
+    let Some(name) = case.name() else {
+        return Ok(());
+    };
     let found = case.run(rt.alloc())?;
     let right = case.accepts(&found);
     tally.note(right);
     if !right {
-        let name = case.name();
         let answers = found.answers.as_str();
         let message = found
             .message
@@ -50,20 +52,15 @@ fn judge(rt: &HostRuntime, tally: &mut Tally, case: &Case) -> anyhow::Result<()>
 
 // Runs the cases of a table, each from a line `= NAME` to the next.
 fn run_table(rt: &HostRuntime, tally: &mut Tally, table: &str) -> anyhow::Result<()> {
-    let mut begun: Option<Case> = None;
+    let mut case = Case::new(rt.alloc());
     for line in table.lines() {
-        if let Some(name) = line.strip_prefix("= ") {
-            if let Some(case) = begun.replace(Case::new(rt.alloc(), name)?) {
-                judge(rt, tally, &case)?;
-            }
-        } else if let Some(case) = &mut begun {
-            case.take(rt.alloc(), line)?;
+        if line.starts_with("= ") {
+            judge(rt, tally, &case)?;
+            case = Case::new(rt.alloc());
         }
+        case.take(rt.alloc(), line)?;
     }
-    match &begun {
-        Some(case) => judge(rt, tally, case),
-        None => Ok(()),
-    }
+    judge(rt, tally, &case)
 }
 
 // Runs the table of standard input, and the questions that no script asks.

@@ -108,7 +108,7 @@ none_wrong rs rows before (l ∷ ls) h =
 pub found_nothing : (b : Bool) (o : Option Objection) (c : Bool) (held : ℕ) → b ≡ true → o ≡ None → c ≡ true →
     fit_or b (line_or o (open_unless c held)) ≡ None
 found_nothing false o c held p q r = absurd (grind arith)
-found_nothing true (Some o) c held p q r = let z : ◌≡◌ {A = ℕ} 0 1 = cc in absurd (omega arith)
+found_nothing true (Some o) c held p q r = absurd cc
 found_nothing true None false held p q r = absurd (grind arith)
 found_nothing true None true held p q r = refl
 

@@ -113,7 +113,7 @@ Fixed lows highs x = same_number (coef lows x) (coef highs x)
 none_by : (b : Bool) (p : ℕ × Side) (o : Order) (lows highs : List ℤ) (x : ℕ) → Fixed lows highs p.0 ≡ b →
     open_or b p (first_open o lows highs) ≡ None → 0 < named x (p ∷ o) →
     (first_open o lows highs ≡ None → 0 < named x o → Fixed lows highs x ≡ true) → Fixed lows highs x ≡ true
-none_by false p o lows highs x e h n later = let z : ◌≡◌ {A = ℕ} 0 1 = cc in absurd (omega arith)
+none_by false p o lows highs x e h n later = absurd cc
 none_by true p o lows highs x e h n later = here (eqb x p.0) refl
   where
     here : (b : Bool) → eqb x p.0 ≡ b → Fixed lows highs x ≡ true
@@ -140,7 +140,7 @@ some_by false p o lows highs x s e h later =
 -- the first open pair names an unknown of the order that is not fixed
 pub open_some : (o : Order) (lows highs : List ℤ) (x : ℕ) (s : Side) → first_open o lows highs ≡ Some (x, s) →
     (0 < named x o) × (Fixed lows highs x ≡ false)
-open_some [] lows highs x s h = let z : ◌≡◌ {A = ℕ} 0 1 = cc in absurd (omega arith)
+open_some [] lows highs x s h = absurd cc
 open_some (p ∷ o) lows highs x s h = some_by _ p o lows highs x s refl h (open_some o lows highs x s)
 
 chosen : (o : Order) (lows highs : List ℤ) → length lows ≡ length o → length highs ≡ length o →
@@ -181,13 +181,13 @@ leads_by true q o lows highs p e h later =
     }
 
 leading : (o : Order) (lows highs : List ℤ) (p : ℕ × Side) → first_open o lows highs ≡ Some p → Leading o lows highs p
-leading [] lows highs p h = let z : ◌≡◌ {A = ℕ} 0 1 = cc in absurd (omega arith)
+leading [] lows highs p h = absurd cc
 leading (q ∷ o) lows highs p h = leads_by _ q o lows highs p refl h (leading o lows highs p)
 
 chosen_leads : (b : Bool) (o : Order) (lows highs : List ℤ) (p : ℕ × Side) → only_if b (first_open o lows highs) ≡ Some p →
     Leading o lows highs p
 chosen_leads true o lows highs p h = leading o lows highs p h
-chosen_leads false o lows highs p h = let z : ◌≡◌ {A = ℕ} 0 1 = cc in absurd (omega arith)
+chosen_leads false o lows highs p h = absurd cc
 
 pub choice_first : ChoiceFirst
 choice_first o lows highs x s h =

@@ -180,7 +180,7 @@ inside_decides High lo hi v = Decides-and _ _ (decides_leZ lo v) (decides_ltZ v 
 
 picked_only : {Y : Type 0} (t : Bool) (y z : Y) → picked t y ≡ Some z → (t ≡ true) × (y ≡ z)
 picked_only true y z e = (refl, cc)
-picked_only false y z e = let n : ◌≡◌ {A = ℕ} 0 1 = cc in absurd (omega arith)
+picked_only false y z e = absurd cc
 
 module _ (lo hi w v : ℤ) where
   offered_found : (s s' : Side) → offered s lo hi w ≡ found s' v → Nearer s lo hi v × (s ≡ s') × (w ≡ v)
@@ -195,7 +195,7 @@ module _ (lo hi w v : ℤ) where
       ∙ ap (λ (t : Bool). picked t (record { side = s; value = v })) ((inside_decides s lo hi v).1 h)
 
 two_sides : Low ≡ High → ⊥
-two_sides e = let z : ◌≡◌ {A = ℕ} 0 1 = cc in absurd (omega arith)
+two_sides e = absurd cc
 
 none_last : (s : Side) (rest v : ℤ) → Last s (pos 0) rest v → ⊥
 none_last s rest v f =
@@ -210,7 +210,7 @@ ceiling_floor : (z : ℤ) (k : ℕ) (v : ℤ) → floor (neg_ℤ z) k ≡ neg_�
 ceiling_floor z k v e = omega (arith, ints)
 
 bounded_last : (s : Side) (a rest lo hi v : ℤ) → bounded a rest lo hi ≡ found s v → Nearer s lo hi v × Last s a rest v
-bounded_last s (pos zero) rest lo hi v e = let z : ◌≡◌ {A = ℕ} 0 1 = cc in absurd (omega arith)
+bounded_last s (pos zero) rest lo hi v e = absurd cc
 bounded_last High (pos (suc a)) rest lo hi v e =
     let o = offered_found lo hi (floor (neg_ℤ rest) (suc a)) v High High e in
     (o.0, floor_fits (suc a) rest v (omega arith) o.2)

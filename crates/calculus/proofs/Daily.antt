@@ -175,21 +175,21 @@ abbrev Six : Ending → Type 0
 Six e = OneOf (Plan ∷ NoPlan ∷ Refused Spent ∷ Refused Long ∷ Refused Wide ∷ Refused Log ∷ []) e
 
 not_list : (e : Ending) → Six e → e ≡ Refused NoList → ⊥
-not_list e (inl h) k = let z : ◌≡◌ {A = ℕ} 0 1 = cc in absurd (omega arith)
-not_list e (inr (inl h)) k = let z : ◌≡◌ {A = ℕ} 0 1 = cc in absurd (omega arith)
-not_list e (inr (inr (inl h))) k = let z : ◌≡◌ {A = ℕ} 0 1 = cc in absurd (omega arith)
-not_list e (inr (inr (inr (inl h)))) k = let z : ◌≡◌ {A = ℕ} 0 1 = cc in absurd (omega arith)
-not_list e (inr (inr (inr (inr (inl h))))) k = let z : ◌≡◌ {A = ℕ} 0 1 = cc in absurd (omega arith)
-not_list e (inr (inr (inr (inr (inr (inl h)))))) k = let z : ◌≡◌ {A = ℕ} 0 1 = cc in absurd (omega arith)
+not_list e (inl h) k = absurd cc
+not_list e (inr (inl h)) k = absurd cc
+not_list e (inr (inr (inl h))) k = absurd cc
+not_list e (inr (inr (inr (inl h)))) k = absurd cc
+not_list e (inr (inr (inr (inr (inl h))))) k = absurd cc
+not_list e (inr (inr (inr (inr (inr (inl h)))))) k = absurd cc
 not_list e (inr (inr (inr (inr (inr (inr h)))))) k = h
 
 not_misfit : (e : Ending) → Six e → e ≡ Refused Misfit → ⊥
-not_misfit e (inl h) k = let z : ◌≡◌ {A = ℕ} 0 1 = cc in absurd (omega arith)
-not_misfit e (inr (inl h)) k = let z : ◌≡◌ {A = ℕ} 0 1 = cc in absurd (omega arith)
-not_misfit e (inr (inr (inl h))) k = let z : ◌≡◌ {A = ℕ} 0 1 = cc in absurd (omega arith)
-not_misfit e (inr (inr (inr (inl h)))) k = let z : ◌≡◌ {A = ℕ} 0 1 = cc in absurd (omega arith)
-not_misfit e (inr (inr (inr (inr (inl h))))) k = let z : ◌≡◌ {A = ℕ} 0 1 = cc in absurd (omega arith)
-not_misfit e (inr (inr (inr (inr (inr (inl h)))))) k = let z : ◌≡◌ {A = ℕ} 0 1 = cc in absurd (omega arith)
+not_misfit e (inl h) k = absurd cc
+not_misfit e (inr (inl h)) k = absurd cc
+not_misfit e (inr (inr (inl h))) k = absurd cc
+not_misfit e (inr (inr (inr (inl h)))) k = absurd cc
+not_misfit e (inr (inr (inr (inr (inl h))))) k = absurd cc
+not_misfit e (inr (inr (inr (inr (inr (inl h)))))) k = absurd cc
 not_misfit e (inr (inr (inr (inr (inr (inr h)))))) k = h
 
 -- everything as found, and no move
@@ -209,7 +209,7 @@ accepted_unknowns rs rows log h = by (eqb log.unknowns (length rs)) _ refl h
   where
     by : (b : Bool) (lines : Option Objection) → eqb log.unknowns (length rs) ≡ b → fit_or b lines ≡ None → log.unknowns ≡ length rs
     by true lines e h = grind (arith, nat_tests)
-    by false lines e h = let z : ◌≡◌ {A = ℕ} 0 1 = cc in absurd (omega arith)
+    by false lines e h = absurd cc
 
 -- a check looks at nothing else of a log
 same_check : (rs : List Range) (rows : List Standing) (log again : Logbook) → again.unknowns ≡ log.unknowns → again.lines ≡ log.lines →

@@ -231,8 +231,8 @@ implied_sits rs t x b q l above below = record {
   known = l;
   above = above;
   below = below;
-  unfixed = λ h. let z : ◌≡◌ {A = ℕ} 0 1 = cc in absurd (omega arith);
-  fixes = λ h. let z : ◌≡◌ {A = ℕ} 0 1 = cc in absurd (omega arith);
+  unfixed = λ h. absurd cc;
+  fixes = λ h. absurd cc;
 }
 
 -- the trail at the start is firm
@@ -293,7 +293,7 @@ unfixed_known rs t x h =
 chosen_open : (b : Bool) (o : Order) (ls hs : List ℤ) (x : ℕ) (s : Side) → only_if b (first_open o ls hs) ≡ Some (x, s) →
     coef ls x ≡ coef hs x → ⊥
 chosen_open true o ls hs x s h e = false≢true (sym (open_some o ls hs x s h).1 ∙ (same_number_decides _ _).1 e)
-chosen_open false o ls hs x s h e = let z : ◌≡◌ {A = ℕ} 0 1 = cc in absurd (omega arith)
+chosen_open false o ls hs x s h e = absurd cc
 
 -- what is chosen, by whatever order, is an unknown of the ranges whose low is below its high
 pub choice_room : (rs : List Range) (t : Trail) (o : Order) (x : ℕ) (s : Side) → InOrder rs → Firm rs t →

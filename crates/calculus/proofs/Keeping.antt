@@ -262,8 +262,7 @@ module _ (c : Context) (o : InOrder c.ranges) (thin : (p : ℕ) → Bare (length
       ((b : Bound) × (better_under rs t j e.unknown ≡ Some b)) → WellAt c (after (jump q c m t j line place e.unknown))
   jump_well None m e t j line place found h complete some =
       let clash = sym found ∙ some.1 in
-      let z : ◌≡◌ {A = ℕ} 0 1 = cc in
-      absurd (omega arith)
+      absurd cc
   jump_well (Some b) m e t j line place found h complete some =
       due_by_well _ m (told m.advice e.unknown) t j line e.unknown b (below e t m.lines h.backing) complete
       h.backing.firm.0.known h.conflict.bare found h.held h.is

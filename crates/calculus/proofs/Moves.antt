@@ -84,10 +84,10 @@ decision_fixes rs t x = (
 
 -- two steps that come to different things
 free_no_move : {m m' : Machine} → free m ≡ moved m' → ⊥
-free_no_move e = let z : ◌≡◌ {A = ℕ} 0 1 = cc in absurd (omega arith)
+free_no_move e = absurd cc
 
 halted_no_move : {m m' : Machine} → halted m ≡ moved m' → ⊥
-halted_no_move e = let z : ◌≡◌ {A = ℕ} 0 1 = cc in absurd (omega arith)
+halted_no_move e = absurd cc
 
 same_move : {m m' : Machine} → moved m ≡ moved m' → m ≡ m'
 same_move e = cc
@@ -253,10 +253,10 @@ pub one_of_three : OneOfThree
 one_of_three c m m' e = of_phase c m m' m.phase refl e
 
 none_some : {Y : Type 0} {o : Option Y} {y : Y} → o ≡ None → o ≡ Some y → ⊥
-none_some p q = let z : ◌≡◌ {A = ℕ} 0 1 = cc in absurd (omega arith)
+none_some p q = absurd cc
 
 one_phase : {p : Phase} {j : Row} {line : ℕ} {place : Option ℕ} → p ≡ looking → p ≡ repairing j line place → ⊥
-one_phase p q = let z : ◌≡◌ {A = ℕ} 0 1 = cc in absurd (omega arith)
+one_phase p q = absurd cc
 
 pub never_two : NeverTwo
 never_two c m m' m'' = (

@@ -123,8 +123,8 @@ act_planning c m p = record {
 }
 
 start_planning : (b : Bool) (c : Context) (a : Advice) → Serves (length c.ranges) a → Planning c (start_by b c a)
-start_planning true c a s = record { serves = s; right = λ h. let z : ◌≡◌ {A = ℕ} 0 1 = cc in absurd (omega arith) }
-start_planning false c a s = record { serves = s; right = λ h. let z : ◌≡◌ {A = ℕ} 0 1 = cc in absurd (omega arith) }
+start_planning true c a s = record { serves = s; right = λ h. absurd cc }
+start_planning false c a s = record { serves = s; right = λ h. absurd cc }
 
 whole_right : (c : Context) (budget : ℕ) (a : Advice) → Serves (length c.ranges) a → (whole_run c budget a).at.phase ≡ ended Plan →
     Right c (whole_run c budget a).at.trail
@@ -136,15 +136,15 @@ whole_right c budget a s =
 
 -- only a machine that has ended in a plan answers plan
 plan_phase : (p : Phase) → ending_of p ≡ Plan → p ≡ ended Plan
-plan_phase looking h = let z : ◌≡◌ {A = ℕ} 0 1 = cc in absurd (omega arith)
-plan_phase (repairing j line place) h = let z : ◌≡◌ {A = ℕ} 0 1 = cc in absurd (omega arith)
+plan_phase looking h = absurd cc
+plan_phase (repairing j line place) h = absurd cc
 plan_phase (ended e) h = ap ended h
 
 -- the tests before a run let only an adviser for as many unknowns pass
 fit_advised : (b d e : Bool) (u : Unit {0}) → answered (when b NoList ∷ when (not d || e) Misfit ∷ []) tt ≡ Ok u → d ≡ true
-fit_advised true d e u h = let z : ◌≡◌ {A = ℕ} 0 1 = cc in absurd (omega arith)
+fit_advised true d e u h = absurd cc
 fit_advised false true e u h = refl
-fit_advised false false e u h = let z : ◌≡◌ {A = ℕ} 0 1 = cc in absurd (omega arith)
+fit_advised false false e u h = absurd cc
 
 begins_advised : (rs : List Range) (a : Advice) (log : Logbook) (plan : List ℤ) (u : Unit {0}) → begin_answer rs a log plan ≡ Ok u →
     advised a ≡ length rs
@@ -165,7 +165,7 @@ plan_by : (r : Result (Unit {0}) Refusal) (rs : List Range) (rows : List Standin
     (budget : ℕ) → begin_answer rs a log plan ≡ r → InOrder rs → Advises a →
     let end = left_by r rs (rows_of rows) a log plan budget in
     end.ending ≡ Plan → Within rs end.plan × MeetsAll end.plan rows
-plan_by (Err r) rs rows a log plan budget b o s h = let z : ◌≡◌ {A = ℕ} 0 1 = cc in absurd (omega arith)
+plan_by (Err r) rs rows a log plan budget b o s h = absurd cc
 plan_by (Ok u) rs rows a log plan budget b o s h =
     let c : Context = record { ranges = rs; rows = rows_of rows; capacity = log.capacity } in
     let t = (whole_run c budget a).at.trail in

@@ -312,7 +312,7 @@ answers (ended e) (inr (inr h)) = inr (inr (inr h))
 answers_by : (r : Result (Unit {0}) Refusal) (rs : List Range) (rows : List Row) (a : Advice) (log : Logbook) (plan : List ℤ) (budget : ℕ) →
     r ≡ Ok tt →
     OneOf (Plan ∷ NoPlan ∷ Refused Spent ∷ Refused Long ∷ Refused Wide ∷ Refused Log ∷ []) (left_by r rs rows a log plan budget).ending
-answers_by (Err r) rs rows a log plan budget h = let z : ◌≡◌ {A = ℕ} 0 1 = cc in absurd (omega arith)
+answers_by (Err r) rs rows a log plan budget h = absurd cc
 answers_by (Ok u) rs rows a log plan budget h = answers _ (whole_lasts _ budget a)
 
 pub run_answers : RunAnswers
@@ -349,11 +349,11 @@ moves_within rs rows a log plan budget = moves_by _ rs (rows_of rows) a log plan
 lasting_not_spent : (p : Phase) → Lasts p → ending_of p ≡ Refused Spent → is_over p ≡ false
 lasting_not_spent looking h e = refl
 lasting_not_spent (repairing j line place) h e = refl
-lasting_not_spent (ended x) (inl h) e = absurd (let z : ◌≡◌ {A = ℕ} 0 1 = cc in omega arith)
-lasting_not_spent (ended x) (inr (inl h)) e = absurd (let z : ◌≡◌ {A = ℕ} 0 1 = cc in omega arith)
-lasting_not_spent (ended x) (inr (inr (inl h))) e = absurd (let z : ◌≡◌ {A = ℕ} 0 1 = cc in omega arith)
-lasting_not_spent (ended x) (inr (inr (inr (inl h)))) e = absurd (let z : ◌≡◌ {A = ℕ} 0 1 = cc in omega arith)
-lasting_not_spent (ended x) (inr (inr (inr (inr (inl h))))) e = absurd (let z : ◌≡◌ {A = ℕ} 0 1 = cc in omega arith)
+lasting_not_spent (ended x) (inl h) e = absurd cc
+lasting_not_spent (ended x) (inr (inl h)) e = absurd cc
+lasting_not_spent (ended x) (inr (inr (inl h))) e = absurd cc
+lasting_not_spent (ended x) (inr (inr (inr (inl h)))) e = absurd cc
+lasting_not_spent (ended x) (inr (inr (inr (inr (inl h))))) e = absurd cc
 lasting_not_spent (ended x) (inr (inr (inr (inr (inr h))))) e = absurd h
 
 and_second : (a b : Bool) → (a && b) ≡ true → b ≡ true
@@ -378,9 +378,9 @@ whole_spent c budget a l e =
 
 -- the tests before a run refuse list or misfit
 not_first : (b d : Bool) → answered {A = Unit {0}} (when b NoList ∷ when d Misfit ∷ []) tt ≡ Err Spent → ⊥
-not_first true d h = let z : ◌≡◌ {A = ℕ} 0 1 = cc in absurd (omega arith)
-not_first false true h = let z : ◌≡◌ {A = ℕ} 0 1 = cc in absurd (omega arith)
-not_first false false h = let z : ◌≡◌ {A = ℕ} 0 1 = cc in absurd (omega arith)
+not_first true d h = absurd cc
+not_first false true h = absurd cc
+not_first false false h = absurd cc
 
 spent_by : (r : Result (Unit {0}) Refusal) (rs : List Range) (rows : List Row) (a : Advice) (log : Logbook) (plan : List ℤ) (budget : ℕ) →
     (r ≡ Err Spent → ⊥) → length rs ≤ most_unknowns →
@@ -432,7 +432,7 @@ log_by : (r : Result (Unit {0}) Refusal) (rs : List Range) (rows : List Row) (a 
     let base = base_lines rs rows in
     Grown base end.log.lines
     ⊎ ((log.capacity < length base) × (end.log.lines ≡ take log.capacity base) × (end.ending ≡ Refused Log) × (end.moves ≡ 0))
-log_by (Err r) rs rows a log plan budget h = let z : ◌≡◌ {A = ℕ} 0 1 = cc in absurd (omega arith)
+log_by (Err r) rs rows a log plan budget h = absurd cc
 log_by (Ok u) rs rows a log plan budget h = by_start (starts_by _ (context_of rs rows log) a refl)
   where
     c : Context

@@ -242,7 +242,7 @@ kind_found true f first k later e rest h =
 kind_found false f first k later e rest h = rest h
 
 kind_listed : (f : Fields) (ks : List Kind) (k : Kind) → kind_among f ks ≡ Some k → f ≡ fields_of k
-kind_listed f [] k h = let z : ◌≡◌ {A = ℕ} 0 1 = cc in absurd (omega arith)
+kind_listed f [] k h = absurd cc
 kind_listed f (first ∷ ks) k h = kind_found (same_fields (fields_of first) f) f first k (kind_among f ks) refl (kind_listed f ks k) h
 
 -- the kind that a line is found to have gives its fields
@@ -253,9 +253,9 @@ kind_is f k h =
 passed : (a b c : Bool) →
     answered {A = Unit {0}} (when (not a) Operand ∷ when (not b) Multiplier ∷ when (not c) Mismatch ∷ []) tt ≡ Ok tt →
     (a ≡ true) × (b ≡ true) × (c ≡ true)
-passed false b c h = let z : ◌≡◌ {A = ℕ} 0 1 = cc in absurd (omega arith)
-passed true false c h = let z : ◌≡◌ {A = ℕ} 0 1 = cc in absurd (omega arith)
-passed true true false h = let z : ◌≡◌ {A = ℕ} 0 1 = cc in absurd (omega arith)
+passed false b c h = absurd cc
+passed true false c h = absurd cc
+passed true true false h = absurd cc
 passed true true true h = (refl, refl, refl)
 
 judged_cuts : (rs : List Range) (rows : List Row) (ls : List Line) (k : Kind) → multipliers_fit k ≡ true →
@@ -268,7 +268,7 @@ judged_cuts rs rows ls (Cut a k) m g = (ltb-true 0 k (and_parts (ltb 0 k) _ m).0
 
 judged_by : (o : Option Kind) (rs : List Range) (rows : List Row) (ls : List Line) (l : Line) → kind_of l.fields ≡ o →
     judged_kind o rs rows ls l.row ≡ Ok tt → Made rs rows ls l
-judged_by None rs rows ls l e h = let z : ◌≡◌ {A = ℕ} 0 1 = cc in absurd (omega arith)
+judged_by None rs rows ls l e h = absurd cc
 judged_by (Some k) rs rows ls l e h =
     let tests = passed (subject_there (length rs) (length rows) k && all_below (length ls) (operands k)) (multipliers_fit k)
     (may_give rs rows ls k && same_row (given rs rows ls k) l.row) h in
@@ -289,7 +289,7 @@ justified_made rs rows ls l h = judged_by (kind_of l.fields) rs rows ls l refl h
 
 wrong_none : (r : Result (Unit {0}) Refusal) (t : ℕ) (later : Option Objection) → wrong_or r t later ≡ None → (r ≡ Ok tt) × (later ≡ None)
 wrong_none (Ok u) t later h = (refl, h)
-wrong_none (Err r) t later h = let z : ◌≡◌ {A = ℕ} 0 1 = cc in absurd (omega arith)
+wrong_none (Err r) t later h = absurd cc
 
 pub right_lines : (rs : List Range) (rows : List Row) (before ls : List Line) → wrong_from rs rows before ls ≡ None →
     (q : ℕ) → q < length ls → Justified rs rows (before ++ take q ls) (line_at ls q)
@@ -302,9 +302,9 @@ right_lines rs rows before (l ∷ ls) h (suc q) k =
 
 pub found_none : (b : Bool) (o : Option Objection) (c : Bool) (held : ℕ) → fit_or b (line_or o (open_unless c held)) ≡ None →
     (o ≡ None) × (c ≡ true)
-found_none false o c held h = let z : ◌≡◌ {A = ℕ} 0 1 = cc in absurd (omega arith)
-found_none true (Some o) c held h = let z : ◌≡◌ {A = ℕ} 0 1 = cc in absurd (omega arith)
-found_none true None false held h = let z : ◌≡◌ {A = ℕ} 0 1 = cc in absurd (omega arith)
+found_none false o c held h = absurd cc
+found_none true (Some o) c held h = absurd cc
+found_none true None false held h = absurd cc
 found_none true None true held h = (refl, refl)
 
 -- the lines of an accepted log are made as their kinds say, and its last one contradicts

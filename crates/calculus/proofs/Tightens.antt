@@ -42,10 +42,10 @@ pub record Says (a rest : ℤ) (b : Bound) : Type 0 where
 
 pub picked_is : {Y : Type 0} (t : Bool) (y z : Y) → picked t y ≡ Some z → y ≡ z
 picked_is true y z h = cc
-picked_is false y z h = let e : ◌≡◌ {A = ℕ} 0 1 = cc in absurd (omega arith)
+picked_is false y z h = absurd cc
 
 pub says : (a rest lo hi : ℤ) (b : Bound) → bounded a rest lo hi ≡ Some b → Says a rest b
-says (pos zero) rest lo hi b h = let e : ◌≡◌ {A = ℕ} 0 1 = cc in absurd (omega arith)
+says (pos zero) rest lo hi b h = absurd cc
 says (pos (suc a)) rest lo hi b h =
     subst (Says (pos (suc a)) rest) (picked_is (le_z lo (floor (neg_ℤ rest) (suc a)) && lt_z (floor (neg_ℤ rest) (suc a)) hi) _ b h)
     (record { some = omega arith; sign = omega (arith, ints); value = refl })

@@ -1,10 +1,10 @@
 -- Covered rows: each of their terms has an entry on the trail that matches it. What keeps a row covered as entries are read or taken off.
-use Rattle.std.proofs.Common.{◌≡◌, ℕ, zero, suc, ◌<◌, ◌≤◌, Bool, true, false, ◌&&◌, ◌||◌, eqb, ◌⊎◌, List, [], ◌∷◌, length, ℤ, pos, negsuc, ◌+ℤ◌, ◌*ℤ◌, ◌≤ℤ◌, ◌<ℤ◌, sym, refl, ap, ◌∙◌, subst, inl, inr, ⊎_elim, arith, ne_eqb}
+use Rattle.std.proofs.Common.{◌≡◌, ℕ, zero, suc, ◌<◌, ◌≤◌, Bool, true, false, ◌||◌, ◌⊎◌, List, [], ◌∷◌, length, ℤ, pos, negsuc, ◌+ℤ◌, ◌*ℤ◌, ◌≤ℤ◌, ◌<ℤ◌, sym, refl, ap, ◌∙◌, subst, inl, inr, ⊎_elim, arith, ne_eqb}
 use borrow.Author.Differences.{ints}
 use Rattle.std.proofs.lemmas.Int.{by_lt_z}
-use Rattle.std.proofs.lemmas.Bool.{cases_eq, cases_lt}
+use Rattle.std.proofs.lemmas.Bool.{cases_eq, cases_lt, and_right, or_right}
 use Rattle.calculus.specs.Arithmetic.{floor}
-use Rattle.calculus.specs.Bounds.{Trail, same_side, on, without}
+use Rattle.calculus.specs.Bounds.{Trail, on, without}
 use Rattle.calculus.specs.Rows.{Row, coef, cut}
 use Rattle.calculus.specs.Tightening.{plus, matches}
 use Rattle.calculus.specs.declared.ranges.Range.{Range}
@@ -12,8 +12,9 @@ use Rattle.calculus.specs.declared.sides.Side.{Side}
 use Rattle.calculus.specs.declared.sides.Side.TheVariants.{Low, High}
 use Rattle.calculus.specs.declared.trails.Entry.{Entry}
 use Rattle.calculus.proofs.BetterBounds.{coef_without}
-use Rattle.calculus.proofs.Ints.{mul_neg, times_le, floor_times}
-use Rattle.calculus.proofs.Leasts.{coef_plus, coef_cut, coef_else}
+use Rattle.calculus.proofs.Firm.{on_is}
+use Rattle.calculus.proofs.Ints.{mul_neg, times_le}
+use Rattle.calculus.proofs.Leasts.{coef_plus, floor_zero, coef_cut, coef_else}
 use Rattle.calculus.proofs.Resolving.{toward}
 
 -- a trail has an entry on y of side s
@@ -97,42 +98,20 @@ matches_divided s k c l e h =
 
 -- an entry on another unknown does not count
 on_else : (s : Side) (y : ℕ) (e : Entry) → (e.unknown ≡ y → ⊥) → on s y e ≡ false
-on_else s y e d = ap (λ (b : Bool). same_side s e.side && b) (ne_eqb y e.unknown (λ h. d (sym h))) ∙ and_false (same_side s e.side)
-  where
-    and_false : (b : Bool) → (b && false) ≡ false
-    and_false true = refl
-    and_false false = refl
+on_else s y e d = and_right _ _ (ne_eqb y e.unknown (λ h. d (sym h)))
 
 pub has_else : (s : Side) (y : ℕ) (e : Entry) (t : Trail) → (e.unknown ≡ y → ⊥) → has s y (e ∷ t) ≡ true → has s y t ≡ true
 has_else s y e t d h = sym (ap (λ (b : Bool). b || has s y t) (on_else s y e d)) ∙ h
 
-same_side_is : (s r : Side) → same_side s r ≡ true → r ≡ s
-same_side_is Low Low h = refl
-same_side_is Low High h = absurd (grind arith)
-same_side_is High Low h = absurd (grind arith)
-same_side_is High High h = refl
-
--- an entry that counts is of that side
-on_is : (s : Side) (y : ℕ) (e : Entry) → on s y e ≡ true → e.side ≡ s
-on_is s y e h = same_side_is s e.side (first (same_side s e.side) (eqb y e.unknown) h)
-  where
-    first : (a b : Bool) → (a && b) ≡ true → a ≡ true
-    first true b h = refl
-    first false b h = absurd (grind arith)
-
 -- an entry below counts, or the top one does
 has_by : (b : Bool) (s : Side) (y : ℕ) (e : Entry) (t : Trail) → on s y e ≡ b → (b || has s y t) ≡ true →
     (e.side ≡ s) ⊎ (has s y t ≡ true)
-has_by true s y e t h k = inl (on_is s y e h)
+has_by true s y e t h k = inl (sym (on_is s y e h).0)
 has_by false s y e t h k = inr k
 
 -- more entries, more that counts
 pub has_more : (s : Side) (y : ℕ) (e : Entry) (t : Trail) → has s y t ≡ true → has s y (e ∷ t) ≡ true
-has_more s y e t h = ap (λ (b : Bool). on s y e || b) h ∙ or_true (on s y e)
-  where
-    or_true : (b : Bool) → (b || true) ≡ true
-    or_true true = refl
-    or_true false = refl
+has_more s y e t h = or_right (on s y e) _ h
 
 -- ---- covered rows
 
@@ -191,7 +170,4 @@ bare_without n x r h y l =
     (λ (d : x ≡ y → ⊥). coef_else r.coefs x y d ∙ h y l) (cases_eq x y)
 
 pub bare_cut : (n k : ℕ) (r : Row) → 0 < k → Bare n r → Bare n (cut k r)
-bare_cut n k r p h y l = coef_cut k r y p ∙ ap (λ (z : ℤ). floor z k) (h y l) ∙ floor_nought k p
-  where
-    floor_nought : (k : ℕ) → 0 < k → floor (pos 0) k ≡ pos 0
-    floor_nought k p = ap (λ (z : ℤ). floor z k) (let z : pos 0 ≡ pos k *ℤ pos 0 = omega (arith, ints) in z) ∙ floor_times (pos 0) k p
+bare_cut n k r p h y l = coef_cut k r y p ∙ ap (λ (z : ℤ). floor z k) (h y l) ∙ floor_zero k p

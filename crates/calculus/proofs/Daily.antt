@@ -3,6 +3,7 @@ use Rattle.std.proofs.Common.{◌≡◌, ℕ, zero, suc, ◌<◌, ◌≤◌, Boo
 use Rattle.std.specs.List.{AllByRecursion}
 use Rattle.std.proofs.ByRecursion.{All-append, All-take}
 use Rattle.std.proofs.lemmas.List.{length-append, length-take}
+use Rattle.std.proofs.lemmas.Bool.{or_parts, not-false}
 use Rattle.std.proofs.lemmas.Bool.Decides.{nat_tests}
 use Rattle.calculus.specs.Account.{Account, bad_range, when, answered, left, heavy, settled, standing, with_row, added}
 use Rattle.calculus.specs.Account.{mark_answer, with_mark, marked, return_answer, returned_to, returned}
@@ -66,14 +67,6 @@ added_by false false false false false rs a s f h k n m =
         small = All-append _ a.rows (s ∷ []) f.rows.small (n refl, tt);
       };
     }
-
-or_parts : (a b : Bool) → (a || b) ≡ false → (a ≡ false) × (b ≡ false)
-or_parts true b h = absurd (grind arith)
-or_parts false b h = (refl, h)
-
-not-false : (b : Bool) → not b ≡ false → b ≡ true
-not-false true h = refl
-not-false false h = absurd (grind arith)
 
 add_fits : (rs : List Range) (a : Account) (label : ℕ) (cs : List ℤ) (k : ℤ) → Fits rs a → Fits rs (added a label cs k)
 add_fits rs a label cs k f =

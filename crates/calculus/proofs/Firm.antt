@@ -76,7 +76,7 @@ on_is s x e h =
     let p = and_parts (same_side s e.side) (eqb x e.unknown) h in
     (side_same s e.side p.0, eqb-true x e.unknown p.1)
 
-on_own : (e : Entry) → on e.side e.unknown e ≡ true
+pub on_own : (e : Entry) → on e.side e.unknown e ≡ true
 on_own e = and_from _ _ (side_self e.side) (eq-eqb e.unknown e.unknown refl)
 
 module _ (rs : List Range) (t : Trail) (e : Entry) where

@@ -1,6 +1,6 @@
 -- Lines that a run writes: each is made from those before it. Rests on Good and Reasons.
-use Rattle.std.proofs.Common.{◌≡◌, ℕ, zero, suc, ◌<◌, ◌≤◌, min, Bool, true, false, ◌&&◌, ltb, leb, List, [], ◌∷◌, ◌++◌, length, take, Ok, Err, sym, refl, ap, ◌∙◌, subst, ⊎_elim, arith}
-use Rattle.std.proofs.lemmas.List.{length-take, get_or-take, length-append, get_or_append_left, get_or_past, get_or_at, take_at}
+use Rattle.std.proofs.Common.{◌≡◌, ℕ, ◌<◌, ◌≤◌, min, Bool, true, false, ◌&&◌, ltb, leb, List, [], ◌∷◌, ◌++◌, length, take, Ok, Err, sym, refl, ap, ◌∙◌, subst, ⊎_elim, arith}
+use Rattle.std.proofs.lemmas.List.{length-take, get_or-take, length-append, get_or_append_left, get_or_past, get_or_at, take_at, take-append-le, take-take}
 use Rattle.std.proofs.lemmas.Bool.{cases_eq, cases_lt}
 use Rattle.std.proofs.lemmas.Bool.Decides.{Decides-ltb}
 use Rattle.calculus.specs.Checking.{all_divide}
@@ -22,11 +22,6 @@ pub record Sound (rs : List Range) (rows : List Row) (ls : List Line) : Type 0 w
 
 -- ---- one line more
 
-take_front : (q : ℕ) (ls ms : List Line) → q ≤ length ls → take q (ls ++ ms) ≡ take q ls
-take_front zero ls ms h = refl
-take_front (suc q) [] ms h = absurd (omega arith)
-take_front (suc q) (l ∷ ls) ms h = ap (λ (k : List Line). l ∷ k) (take_front q ls ms (omega arith))
-
 pub good_more : (rs : List Range) (rows : List Row) (ls : List Line) (l : Line) → Good rs rows ls → Made rs rows ls l →
     Good rs rows (ls ++ l ∷ [])
 good_more rs rows ls l good made q less =
@@ -35,7 +30,7 @@ good_more rs rows ls l good made q less =
     (λ (e : q ≡ length ls). subst (λ (k : List Line). Made rs rows k (line_at (ls ++ l ∷ []) q)) (sym (take_at ls (l ∷ []) q (sym e)))
     (subst (λ (k : Line). Made rs rows ls k) (sym (get_or_at ls l [] no_line q (sym e))) made))
     (λ (d : q ≡ length ls →
-    ⊥). subst (λ (k : List Line). Made rs rows k (line_at (ls ++ l ∷ []) q)) (sym (take_front q ls (l ∷ []) (omega arith)))
+    ⊥). subst (λ (k : List Line). Made rs rows k (line_at (ls ++ l ∷ []) q)) (sym (take-append-le q ls (l ∷ []) (omega arith)))
     (subst (λ (k : Line). Made rs rows (take q ls) k) (sym (get_or_append_left ls (l ∷ []) no_line q (omega arith))) (good q (omega arith))))
     (cases_eq q (length ls))
 
@@ -59,12 +54,6 @@ sound_more rs rows ls l s made b =
 
 -- ---- a first part of the lines
 
-take_less : (q k : ℕ) (ls : List Line) → q ≤ k → take q (take k ls) ≡ take q ls
-take_less zero k ls h = refl
-take_less (suc q) zero ls h = absurd (omega arith)
-take_less (suc q) (suc k) [] h = refl
-take_less (suc q) (suc k) (l ∷ ls) h = ap (λ (t : List Line). l ∷ t) (take_less q k ls (omega arith))
-
 pub sound_take : (rs : List Range) (rows : List Row) (ls : List Line) (k : ℕ) → Sound rs rows ls → Sound rs rows (take k ls)
 sound_take rs rows ls k s = record { good = good; bare = bare }
   where
@@ -74,7 +63,7 @@ sound_take rs rows ls k s = record { good = good; bare = bare }
     good : Good rs rows (take k ls)
     good q l =
         let e = long in
-        subst (λ (t : List Line). Made rs rows t (line_at (take k ls) q)) (sym (take_less q k ls (omega arith)))
+        subst (λ (t : List Line). Made rs rows t (line_at (take k ls) q)) (sym (take-take q k ls (omega arith)))
         (subst (λ (t : Line). Made rs rows (take q ls) t) (sym (get_or-take k ls q no_line (omega arith))) (s.good q (omega arith)))
 
     bare : (q : ℕ) → Bare (length rs) (line_row (take k ls) q)

@@ -1,7 +1,7 @@
 -- Arithmetic of rows: coefficients of sums and cuts, and what least values do under them. Rests on whole numbers alone.
 use Rattle.std.proofs.Common.{◌≡◌, ℕ, zero, suc, ◌<◌, ◌⊎◌, List, [], ◌∷◌, map, set, ℤ, pos, negsuc, ◌+ℤ◌, ◌*ℤ◌, neg_ℤ, ◌≤ℤ◌, ◌<ℤ◌, sym, refl, ap, ◌∙◌, subst, inl, inr, ⊎_elim, arith, get_or-set_other}
 use borrow.Author.Differences.{ints}
-use lib.IntN.{*ℤ_comm}
+use lib.IntN.{*ℤ_comm, *ℤ-zero}
 use Rattle.std.proofs.lemmas.Int.{by_lt_z}
 use Rattle.std.proofs.lemmas.Bool.{cases_eq}
 use Rattle.calculus.specs.Arithmetic.{sum, floor, ceiling}
@@ -52,16 +52,13 @@ coef_map f z [] i = sym z
 coef_map f z (c ∷ cs) zero = refl
 coef_map f z (c ∷ cs) (suc i) = coef_map f z cs i
 
-times_zero : (k : ℕ) → pos k *ℤ pos 0 ≡ pos 0
-times_zero k = omega (arith, ints)
-
 pub coef_plus : (p : Row) (m : ℕ) (q : Row) (i : ℕ) → coef (plus p m q).coefs i ≡ coef p.coefs i +ℤ pos m *ℤ coef q.coefs i
 coef_plus p m q i =
     coef_added p.coefs (map (λ c. pos m *ℤ c) q.coefs) i
-    ∙ ap (λ (z : ℤ). coef p.coefs i +ℤ z) (coef_map (λ c. pos m *ℤ c) (times_zero m) q.coefs i)
+    ∙ ap (λ (z : ℤ). coef p.coefs i +ℤ z) (coef_map (λ c. pos m *ℤ c) (*ℤ-zero (pos m)) q.coefs i)
 
-floor_zero : (k : ℕ) → 0 < k → floor (pos 0) k ≡ pos 0
-floor_zero k l = ap (λ (z : ℤ). floor z k) (sym (times_zero k)) ∙ floor_times (pos 0) k l
+pub floor_zero : (k : ℕ) → 0 < k → floor (pos 0) k ≡ pos 0
+floor_zero k l = ap (λ (z : ℤ). floor z k) (sym (*ℤ-zero (pos k))) ∙ floor_times (pos 0) k l
 
 pub coef_cut : (k : ℕ) (r : Row) (i : ℕ) → 0 < k → coef (cut k r).coefs i ≡ floor (coef r.coefs i) k
 coef_cut k r i l = coef_map (λ c. floor c k) (floor_zero k l) r.coefs i
@@ -160,7 +157,7 @@ term_times : (k : ℕ) (a lo hi : ℤ) → term (pos k *ℤ a) lo hi ≡ pos k *
 term_times k (pos a) lo hi = assoc (pos k) (pos a) lo
 term_times k (negsuc a) lo hi =
     let m = times_le k (negsuc a) (pos 0) (omega (arith, ints)) in
-    let z = times_zero k in
+    let z = *ℤ-zero (pos k) in
     term_high (pos k *ℤ negsuc a) lo hi (omega (arith, ints)) ∙ assoc (pos k) (negsuc a) hi
 
 -- a cut that divides loses nothing: k times its least value is not below that of the row
@@ -182,7 +179,7 @@ pub cut_fails : (n : ℕ) (lo hi : ℕ → ℤ) (k : ℕ) (r : Row) → 0 < k �
 cut_fails n lo hi k r l div h =
     let c = cut_least n lo hi k r l div in
     by_lt_z (pos 0) (least n lo hi (cut k r)) (λ g. g)
-    (λ g. let m = times_le k (least n lo hi (cut k r)) (pos 0) g in let z = times_zero k in absurd (omega (arith, ints)))
+    (λ g. let m = times_le k (least n lo hi (cut k r)) (pos 0) g in let z = *ℤ-zero (pos k) in absurd (omega (arith, ints)))
 
 -- a cut of the rest: the least value of the rest, divided and rounded up, is not above that of the cut row's rest
 pub cut_rest : (n : ℕ) (lo hi : ℕ → ℤ) (k : ℕ) (r : Row) (x : ℕ) → 0 < k → x < n → Divided k r →

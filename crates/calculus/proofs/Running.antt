@@ -1,6 +1,7 @@
 -- Laws of whole runs: where a run rests it stays, larger budgets come through the same machines, and every run rests.
 use Rattle.std.proofs.Common.{◌≡◌, ℕ, zero, suc, ◌+◌, ◌-◌, ◌*◌, ◌<◌, ◌≤◌, Bool, true, false, not, ◌&&◌, ◌||◌, eqb, leb, ◌⊎◌, List, [], ◌∷◌, length, take, ℤ, Ok, Err, Result, sym, refl, ap, ◌∙◌, subst, inl, inr, le_trans, mul-le-mul_right, suc-add, zero-add, arith}
 use Rattle.std.proofs.lemmas.List.{length-take}
+use Rattle.std.proofs.lemmas.Bool.{and_parts, or_parts, or_right}
 use Rattle.std.proofs.lemmas.Bool.Decides.{nat_tests}
 use Rattle.calculus.specs.Account.{when, answered}
 use Rattle.calculus.specs.Advice.{Advice, advised}
@@ -133,10 +134,6 @@ larger_budget rs rows a log plan budget larger l h = larger_by _ rs (rows_of row
 
 -- ---- every run rests
 
-or_true : (b : Bool) → (b || true) ≡ true
-or_true true = refl
-or_true false = refl
-
 not_due_over : (p : Phase) (entries : ℕ) → togo p entries ≤ 0 → is_over p ≡ true
 not_due_over looking entries h = absurd (omega arith)
 not_due_over (repairing j line place) entries h = absurd (omega arith)
@@ -175,8 +172,8 @@ few_on h (inr e) = omega arith
 coast_by_ok : (a : Acted) (c : Context) (k : ℕ) (m : Machine) → act c m ≡ a → Fine c m a → togo_of m ≤ suc k →
     ((n : Machine) → togo_of n ≤ k → Settled c (coast c k n)) → Settled c (coast_by a m (coast c k))
 coast_by_ok (free n) c k m e f h later = later n (few_on h (free_on c m n (is_over m.phase) refl e f))
-coast_by_ok (halted n) c k m e f h later = ap (λ (a : Acted). is_over m.phase || is_due a) e ∙ or_true (is_over m.phase)
-coast_by_ok (moved n) c k m e f h later = ap (λ (a : Acted). is_over m.phase || is_due a) e ∙ or_true (is_over m.phase)
+coast_by_ok (halted n) c k m e f h later = or_right (is_over m.phase) _ (ap is_due e)
+coast_by_ok (moved n) c k m e f h later = or_right (is_over m.phase) _ (ap is_due e)
 
 coast_ok : (c : Context) (k : ℕ) (m : Machine) → togo_of m ≤ k → Settled c (coast c k m)
 coast_ok c zero m h = ap (λ (b : Bool). b || is_due (act c m)) (not_due_over m.phase (length m.trail) h)
@@ -222,17 +219,13 @@ falls (free n) c budget g f busy h short = let l = f.1 busy in (omega arith, f.0
 falls (halted n) c budget g f busy h short = halted_by (leb budget g.made) c budget g n refl h short f
 falls (moved n) c budget g f busy h short = moved_by (leb budget g.made) c budget g n refl h short f
 
-or_false : (a b : Bool) → (a || b) ≡ false → (a ≡ false) × (b ≡ false)
-or_false true b h = absurd (grind arith)
-or_false false b h = (refl, h)
-
 weighed_by : (resting : Bool) (c : Context) (budget k : ℕ) (g : Progress) → rests c budget g ≡ resting → Short g → weight budget g ≤ suc k →
     ((f : Progress) → Short f → weight budget f ≤ k → rests c budget (run c budget k f) ≡ true) →
     rests c budget (run c budget (suc k) g) ≡ true
 weighed_by true c budget k g e short h later =
     ap (λ (f : Progress). rests c budget f) (rest_stays c budget (suc k) g e) ∙ e
 weighed_by false c budget k g e short h later =
-    let parts = or_false (is_over g.at.phase) _ e in
+    let parts = or_parts (is_over g.at.phase) _ e in
     let next = falls (act c g.at) c budget g (act_ok c g.at) parts.0 parts.1 short in
     let less = next.0 in
     later (advanced budget (act c g.at) g) next.1 (omega arith)
@@ -356,16 +349,12 @@ lasting_not_spent (ended x) (inr (inr (inr (inl h)))) e = absurd cc
 lasting_not_spent (ended x) (inr (inr (inr (inr (inl h))))) e = absurd cc
 lasting_not_spent (ended x) (inr (inr (inr (inr (inr h))))) e = absurd h
 
-and_second : (a b : Bool) → (a && b) ≡ true → b ≡ true
-and_second true b h = h
-and_second false b h = absurd (grind arith)
-
 -- a run that rests and is not over has made as many moves as its budget
 resting_moves : (over : Bool) (c : Context) (budget : ℕ) (g : Progress) → is_over g.at.phase ≡ over → over ≡ false →
     (over || (is_due (act c g.at) && leb budget g.made)) ≡ true → g.made ≤ budget → g.made ≡ budget
 resting_moves true c budget g e h r l = absurd (grind arith)
 resting_moves false c budget g e h r l =
-    let full : leb budget g.made ≡ true = and_second (is_due (act c g.at)) (leb budget g.made) r in
+    let full : leb budget g.made ≡ true = (and_parts (is_due (act c g.at)) (leb budget g.made) r).1 in
     let least : budget ≤ g.made = grind (arith, nat_tests) in
     omega arith
 

@@ -1,12 +1,12 @@
 -- The start of a run meets its invariant: the base lines are sound, and the range entries are held by them.
 -- Then so does every machine of a run. Rests on GoodLogs, Reasons and Keeping.
-use Rattle.std.proofs.Common.{◌≡◌, ℕ, zero, suc, ◌+◌, ◌<◌, ◌≤◌, Bool, true, false, ◌&&◌, ◌||◌, eqb, List, [], ◌∷◌, ◌++◌, length, replicate, ℤ, pos, negsuc, neg_ℤ, sym, refl, ap, ◌∙◌, subst, ⊎_elim, arith, eq-eqb}
+use Rattle.std.proofs.Common.{◌≡◌, ℕ, zero, suc, ◌+◌, ◌<◌, ◌≤◌, Bool, true, false, List, [], ◌∷◌, ◌++◌, length, replicate, ℤ, pos, negsuc, neg_ℤ, sym, refl, ap, ◌∙◌, subst, ⊎_elim, arith}
 use borrow.Author.Differences.{ints}
 use Rattle.std.proofs.lemmas.List.{append-nil, append_assoc, length-append, length-set, length-replicate, get_or_past, get_or_at, get_or-set_same, get_or-set_other, get_or-append-add}
-use Rattle.std.proofs.lemmas.Bool.{cases_eq}
+use Rattle.std.proofs.lemmas.Bool.{cases_eq, or_left}
 use Rattle.std.proofs.lemmas.Bool.Decides.{Decides-ltb}
 use Rattle.calculus.specs.Advice.{Advice}
-use Rattle.calculus.specs.Bounds.{Trail, same_side, low, high, least, without, range_at, row_at}
+use Rattle.calculus.specs.Bounds.{Trail, low, high, least, without, range_at, row_at}
 use Rattle.calculus.specs.Logs.{Line, no_line, line_at, line_row}
 use Rattle.calculus.specs.Machines.{Context}
 use Rattle.calculus.specs.RunLaws.{Grown}
@@ -20,7 +20,7 @@ use Rattle.calculus.specs.declared.sides.Side.{Side}
 use Rattle.calculus.specs.declared.sides.Side.TheVariants.{Low, High}
 use Rattle.calculus.proofs.BetterBounds.{coef_without}
 use Rattle.calculus.proofs.Covering.{has, CoveredBut, Bare, has_more, matches_zero}
-use Rattle.calculus.proofs.Firm.{InOrder, low_entry, high_entry, start_firm}
+use Rattle.calculus.proofs.Firm.{InOrder, on_own, low_entry, high_entry, start_firm}
 use Rattle.calculus.proofs.Tabling.{table_long, table_at}
 use Rattle.calculus.proofs.Good.{Made}
 use Rattle.calculus.proofs.GoodLogs.{Sound, sound_more, sound_take}
@@ -169,10 +169,6 @@ range_held rs (suc k) l =
       ),
     )
 
-on_own : (s : Side) (k : ℕ) → (same_side s s && eqb k k) ≡ true
-on_own Low k = eq-eqb k k refl
-on_own High k = eq-eqb k k refl
-
 -- every unknown has both
 range_has : (rs : List Range) (k : ℕ) (s : Side) (y : ℕ) → y < k → has s y (range_entries rs k) ≡ true
 range_has rs zero s y l = absurd (omega arith)
@@ -183,8 +179,8 @@ range_has rs (suc k) s y l =
     (cases_eq y k)
   where
     newest_has : (s : Side) → has s k (range_entries rs (suc k)) ≡ true
-    newest_has Low = ap (λ (b : Bool). b || has Low k (range_entries rs k)) (on_own Low k)
-    newest_has High = ap (λ (b : Bool). b || has High k (low_entry rs k ∷ range_entries rs k)) (on_own High k)
+    newest_has Low = or_left _ _ (on_own (low_entry rs k))
+    newest_has High = or_left _ _ (on_own (high_entry rs k))
 
 -- ---- the run
 

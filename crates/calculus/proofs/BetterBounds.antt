@@ -29,6 +29,10 @@ sum_same (suc n) f g h =
     let d = h n (omega arith) in
     omega (arith, ints)
 
+pub sum_zero : (n : ℕ) (f : ℕ → ℤ) → ((i : ℕ) → f i ≡ pos 0) → sum n f ≡ pos 0
+sum_zero zero f h = refl
+sum_zero (suc n) f h = let e = sum_zero n f h in let d = h n in omega (arith, ints)
+
 -- two sums whose terms differ at most at x
 pub sum_only : (n x : ℕ) (f g : ℕ → ℤ) → x < n → ((i : ℕ) → (x ≡ i → ⊥) → f i ≡ g i) → sum n f +ℤ g x ≡ sum n g +ℤ f x
 sum_only zero x f g l h = absurd (omega arith)
@@ -48,7 +52,7 @@ coef_without [] x = refl
 coef_without (c ∷ cs) zero = refl
 coef_without (c ∷ cs) (suc x) = coef_without cs x
 
-term_zero : (a lo hi : ℤ) → a ≡ pos 0 → term a lo hi ≡ pos 0
+pub term_zero : (a lo hi : ℤ) → a ≡ pos 0 → term a lo hi ≡ pos 0
 term_zero a lo hi e = ap (λ (z : ℤ). term z lo hi) e ∙ omega (arith, ints)
 
 pub term_at : (a v : ℤ) → term a v v ≡ a *ℤ v
@@ -178,7 +182,7 @@ inside_decides : (s : Side) (lo hi v : ℤ) → Decides (inside s lo hi v) (Near
 inside_decides Low lo hi v = Decides-and _ _ (decides_ltZ lo v) (decides_leZ v hi)
 inside_decides High lo hi v = Decides-and _ _ (decides_leZ lo v) (decides_ltZ v hi)
 
-picked_only : {Y : Type 0} (t : Bool) (y z : Y) → picked t y ≡ Some z → (t ≡ true) × (y ≡ z)
+pub picked_only : {Y : Type 0} (t : Bool) (y z : Y) → picked t y ≡ Some z → (t ≡ true) × (y ≡ z)
 picked_only true y z e = (refl, cc)
 picked_only false y z e = absurd cc
 

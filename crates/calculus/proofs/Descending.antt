@@ -2,7 +2,6 @@
 -- One lemma for each of the three kinds of entry. Rests on Resolving, Covering, Reasons and Multiples.
 use Rattle.std.proofs.Common.{◌≡◌, ℕ, ◌<◌, true, false, eqb, List, ◌∷◌, length, ℤ, pos, ◌+ℤ◌, ◌*ℤ◌, nat_abs, ◌≤ℤ◌, sym, refl, ap, ◌∙◌, subst, ⊎_elim, arith}
 use borrow.Author.Differences.{ints}
-use lib.IntN.{*ℤ_comm}
 use Rattle.std.proofs.lemmas.Bool.{cases_eq}
 use Rattle.calculus.specs.Advice.{turned_side}
 use Rattle.calculus.specs.Arithmetic.{sum}
@@ -16,7 +15,7 @@ use Rattle.calculus.specs.declared.trails.Entry.{Entry}
 use Rattle.calculus.proofs.BetterBounds.{here_same, here_other, sum_same, sum_only, coef_without, term_at}
 use Rattle.calculus.proofs.Covering.{Covered, CoveredBut, Bare, covered_past, covered_sum}
 use Rattle.calculus.proofs.Firm.{end_at, end_own, end_across, end_other}
-use Rattle.calculus.proofs.Ints.{distrib}
+use Rattle.calculus.proofs.Ints.{times_sum}
 use Rattle.calculus.proofs.Leasts.{coef_plus, coef_else}
 use Rattle.calculus.proofs.Multiples.{Multiple, multiple_plus}
 use Rattle.calculus.proofs.Resolving.{unit, Tight, SameBut, match_cancel, resolve_least, unmatched_least, aside_least}
@@ -74,14 +73,6 @@ pub record Kept (rs : List Range) (whole : Trail) (x d : ℕ) (r : Row) (t : Tra
   -- the least value of the row is not above that of what is set aside and of the open part under the rest of the trail
   pub bound : under rs whole r ≤ℤ (aside_sum rs whole aside +ℤ under rs t part)
   pub bare : Bare (length rs) row
-
-times_sum : (a b v : ℤ) → (a +ℤ b) *ℤ v ≡ a *ℤ v +ℤ b *ℤ v
-times_sum a b v =
-    let c = *ℤ_comm (a +ℤ b) v in
-    let d = distrib v a b in
-    let e = *ℤ_comm v a in
-    let f = *ℤ_comm v b in
-    omega (arith, ints)
 
 bound_arith : (all old part more g f av nv pv rest rest' : ℤ) → all ≤ℤ (old +ℤ part) → more +ℤ g ≡ old +ℤ f → f ≡ av +ℤ nv → g ≡ av →
     pv ≡ nv → rest ≡ rest' → part ≤ℤ (pv +ℤ rest) → all ≤ℤ (more +ℤ rest')

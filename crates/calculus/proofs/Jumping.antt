@@ -15,25 +15,25 @@ use Rattle.calculus.specs.declared.sides.Side.{Side}
 use Rattle.calculus.specs.declared.sides.Side.TheVariants.{Low, High}
 use Rattle.calculus.specs.declared.trails.Bound.{Bound}
 use Rattle.calculus.specs.declared.trails.Entry.{Entry}
+use Rattle.calculus.proofs.BetterBounds.{picked_only}
 use Rattle.calculus.proofs.Conflicts.{Conflict, conflict_past, conflict_bounds}
 use Rattle.calculus.proofs.Descending.{under}
 use Rattle.calculus.proofs.Firm.{fit_order}
 use Rattle.calculus.proofs.Keeping.{Repairs, Well}
 use Rattle.calculus.proofs.Nones.{thin_rows}
 use Rattle.calculus.proofs.Starting.{run_well}
-use Rattle.calculus.proofs.Tightens.{picked_is}
 
 -- a coefficient that a side matches bounds on the other side
 bound_side : (s : Side) (a rest lo hi : ℤ) (b : Bound) → matches s a ≡ true → bounded a rest lo hi ≡ Some b → b.side ≡ turned_side s
 bound_side Low (pos zero) rest lo hi b m h = absurd (grind arith)
 bound_side Low (pos (suc a)) rest lo hi b m h =
-    ap (λ (z : Bound). z.side) (sym (picked_is (le_z lo (floor (neg_ℤ rest) (suc a)) && lt_z (floor (neg_ℤ rest) (suc a)) hi)
-    (record { side = High; value = floor (neg_ℤ rest) (suc a) }) b h))
+    ap (λ (z : Bound). z.side) (sym (picked_only (le_z lo (floor (neg_ℤ rest) (suc a)) && lt_z (floor (neg_ℤ rest) (suc a)) hi)
+    (record { side = High; value = floor (neg_ℤ rest) (suc a) }) b h).1)
 bound_side Low (negsuc a) rest lo hi b m h = absurd (grind arith)
 bound_side High (pos a) rest lo hi b m h = absurd (grind arith)
 bound_side High (negsuc a) rest lo hi b m h =
-    ap (λ (z : Bound). z.side) (sym (picked_is (lt_z lo (ceiling rest (suc a)) && le_z (ceiling rest (suc a)) hi)
-    (record { side = Low; value = ceiling rest (suc a) }) b h))
+    ap (λ (z : Bound). z.side) (sym (picked_only (lt_z lo (ceiling rest (suc a)) && le_z (ceiling rest (suc a)) hi)
+    (record { side = Low; value = ceiling rest (suc a) }) b h).1)
 
 -- the entry matches, or the conflict would fail without it
 matches_by : (v : Bool) (rs : List Range) (e : Entry) (t : Trail) (j : Row) → matches e.side (coef j.coefs e.unknown) ≡ v →

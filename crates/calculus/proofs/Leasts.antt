@@ -1,15 +1,17 @@
 -- Arithmetic of rows: coefficients of sums and cuts, and what least values do under them. Rests on whole numbers alone.
-use Rattle.std.proofs.Common.{◌≡◌, ℕ, zero, suc, ◌<◌, ◌⊎◌, List, [], ◌∷◌, map, set, ℤ, pos, negsuc, ◌+ℤ◌, ◌*ℤ◌, neg_ℤ, ◌≤ℤ◌, ◌<ℤ◌, sym, refl, ap, ◌∙◌, subst, inl, inr, ⊎_elim, arith, get_or-set_other}
+use Rattle.std.proofs.Common.{◌≡◌, ℕ, zero, suc, ◌<◌, ◌⊎◌, List, [], ◌∷◌, map, set, replicate, ℤ, pos, negsuc, ◌+ℤ◌, ◌*ℤ◌, neg_ℤ, ◌≤ℤ◌, ◌<ℤ◌, sym, refl, ap, ◌∙◌, subst, inl, inr, ⊎_elim, arith, get_or-set_other}
 use borrow.Author.Differences.{ints}
-use lib.IntN.{*ℤ_comm, *ℤ-zero}
+use lib.IntN.{*ℤ-zero}
+use Rattle.std.proofs.lemmas.List.{length-replicate, get_or-set_same}
 use Rattle.std.proofs.lemmas.Int.{by_lt_z}
 use Rattle.std.proofs.lemmas.Bool.{cases_eq}
 use Rattle.calculus.specs.Arithmetic.{sum, floor, ceiling}
 use Rattle.calculus.specs.Bounds.{term, least, without}
 use Rattle.calculus.specs.Rows.{Row, coef, cut}
+use Rattle.calculus.specs.Runs.{lone}
 use Rattle.calculus.specs.Tightening.{added_coefs, plus}
 use Rattle.calculus.proofs.BetterBounds.{least_split}
-use Rattle.calculus.proofs.Ints.{distrib, assoc, times_le, floor_times, ceiling_rounds, sum_times}
+use Rattle.calculus.proofs.Ints.{distrib, times_sum, assoc, times_le, floor_times, ceiling_rounds, sum_times}
 
 -- ---- sums
 
@@ -66,6 +68,19 @@ coef_cut k r i l = coef_map (λ c. floor c k) (floor_zero k l) r.coefs i
 pub coef_else : (cs : List ℤ) (x i : ℕ) → (x ≡ i → ⊥) → coef (set cs x (pos 0)) i ≡ coef cs i
 coef_else cs x i d = get_or-set_other cs x i (pos 0) (pos 0) (λ e. d (sym e))
 
+-- ---- rows with one coefficient
+
+zeros : (n i : ℕ) → coef (replicate n (pos 0)) i ≡ pos 0
+zeros zero i = refl
+zeros (suc n) zero = refl
+zeros (suc n) (suc i) = zeros n i
+
+pub lone_here : (n x : ℕ) (a k : ℤ) → x < n → coef (lone n x a k).coefs x ≡ a
+lone_here n x a k l = let e = length-replicate n (pos 0) in get_or-set_same (replicate n (pos 0)) x a (pos 0) (omega arith)
+
+pub lone_else : (n x i : ℕ) (a k : ℤ) → (x ≡ i → ⊥) → coef (lone n x a k).coefs i ≡ pos 0
+lone_else n x i a k d = get_or-set_other (replicate n (pos 0)) x i a (pos 0) (λ e. d (sym e)) ∙ zeros n i
+
 -- ---- terms
 
 neg_times_le : (a : ℕ) (u v : ℤ) → u ≤ℤ v → (negsuc a *ℤ v) ≤ℤ (negsuc a *ℤ u)
@@ -94,13 +109,7 @@ term_narrows (pos a) lo hi lo' hi' l h = times_le a lo lo' l
 term_narrows (negsuc a) lo hi lo' hi' l h = neg_times_le a hi' hi h
 
 pub mixed : (a b v : ℤ) (m : ℕ) → (a +ℤ pos m *ℤ b) *ℤ v ≡ a *ℤ v +ℤ pos m *ℤ (b *ℤ v)
-mixed a b v m =
-    let c = *ℤ_comm (a +ℤ pos m *ℤ b) v in
-    let d = distrib v a (pos m *ℤ b) in
-    let e = *ℤ_comm v a in
-    let f = *ℤ_comm v (pos m *ℤ b) in
-    let g = assoc (pos m) b v in
-    omega (arith, ints)
+mixed a b v m = times_sum a (pos m *ℤ b) v ∙ ap (λ (z : ℤ). a *ℤ v +ℤ z) (assoc (pos m) b v)
 
 super_at : (a b lo hi v : ℤ) (m : ℕ) → lo ≤ℤ v → v ≤ℤ hi → term (a +ℤ pos m *ℤ b) lo hi ≡ (a +ℤ pos m *ℤ b) *ℤ v →
     (term a lo hi +ℤ pos m *ℤ term b lo hi) ≤ℤ term (a +ℤ pos m *ℤ b) lo hi

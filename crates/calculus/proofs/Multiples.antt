@@ -1,8 +1,10 @@
 -- Multiples of a number among the whole numbers, by remainder and by quotient.
-use Rattle.std.proofs.Common.{◌≡◌, ℕ, zero, suc, ◌+◌, ◌*◌, ◌/◌, ◌%◌, ◌<◌, Bool, true, false, ◌&&◌, eqb, List, [], ◌∷◌, ℤ, pos, negsuc, ◌+ℤ◌, ◌*ℤ◌, neg_ℤ, nat_abs, sym, refl, ap, ◌∙◌, arith, eq-eqb}
-use native.Mathlib.Nat.{div-add-mod, mul-mod_right}
+use Rattle.std.proofs.Common.{◌≡◌, ℕ, zero, suc, ◌+◌, ◌%◌, ◌<◌, Bool, true, false, ◌&&◌, eqb, List, [], ◌∷◌, ℤ, pos, negsuc, ◌+ℤ◌, ◌*ℤ◌, nat_abs, sym, refl, ap, ◌∙◌, arith, eq-eqb}
+use native.Mathlib.Nat.{mul-mod_right}
 use borrow.Author.Differences.{ints}
 use Rattle.std.proofs.lemmas.Bool.Decides.{nat_tests}
+use Rattle.std.proofs.lemmas.Int.{unsigned_abs-mul}
+use Rattle.std.proofs.lemmas.Nat.Gcd.{dvd_of_mod-eq-zero}
 use Rattle.calculus.specs.Advice.{turned_side}
 use Rattle.calculus.specs.Arithmetic.{floor}
 use Rattle.calculus.specs.Bounds.{here_or}
@@ -11,8 +13,9 @@ use Rattle.calculus.specs.Rows.{coef}
 use Rattle.calculus.specs.Tightening.{matches, lacking, left_open}
 use Rattle.calculus.specs.declared.sides.Side.{Side}
 use Rattle.calculus.specs.declared.sides.Side.TheVariants.{Low, High}
-use Rattle.calculus.proofs.Ints.{distrib, mul_neg, floor_times}
+use Rattle.calculus.proofs.Ints.{distrib, floor_times}
 use Rattle.calculus.proofs.Moves.{lacking_fills}
+use Rattle.calculus.proofs.Reduction.{quotient}
 use Rattle.calculus.proofs.Resolving.{unit}
 
 -- z is a multiple of d.
@@ -29,24 +32,10 @@ multiple_plus d a b p q =
 
 -- by the remainder of the absolute value
 pub multiple_mod : (d : ℕ) (z : ℤ) → nat_abs z % d ≡ 0 → Multiple d z
-multiple_mod d (pos a) h =
-    let e = div-add-mod a d in
-    record { by = pos (a / d); is = ap pos (let k : a ≡ d * (a / d) = omega arith in k) }
-multiple_mod d (negsuc a) h =
-    let e = div-add-mod (suc a) d in
-    let k : suc a ≡ d * (suc a / d) = omega arith in
-    let m = mul_neg (pos d) (pos (suc a / d)) in
-    record { by = neg_ℤ (pos (suc a / d)); is = ap (λ (n : ℕ). neg_ℤ (pos n)) k ∙ sym m }
-
-abs_times : (d : ℕ) (w : ℤ) → nat_abs (pos d *ℤ w) ≡ d * nat_abs w
-abs_times d (pos w) = refl
-abs_times d (negsuc w) = let m = mul_neg (pos d) (pos (suc w)) in abs_neg (pos d *ℤ negsuc w) (d * suc w) m
-  where
-    abs_neg : (z : ℤ) (n : ℕ) → z ≡ neg_ℤ (pos n) → nat_abs z ≡ n
-    abs_neg z n e = omega (arith, ints)
+multiple_mod d z h = let q = quotient d z (dvd_of_mod-eq-zero d h) in record { by = q.0; is = q.1 }
 
 pub mod_multiple : (d : ℕ) (z : ℤ) → Multiple d z → nat_abs z % d ≡ 0
-mod_multiple d z m = ap (λ (k : ℤ). nat_abs k % d) m.is ∙ ap (λ (k : ℕ). k % d) (abs_times d m.by) ∙ mul-mod_right d (nat_abs m.by)
+mod_multiple d z m = ap (λ (k : ℤ). nat_abs k % d) m.is ∙ ap (λ (k : ℕ). k % d) (unsigned_abs-mul (pos d) m.by) ∙ mul-mod_right d (nat_abs m.by)
 
 -- dividing a multiple and multiplying again
 pub multiple_floor : (d : ℕ) (z : ℤ) → 0 < d → Multiple d z → pos d *ℤ floor z d ≡ z

@@ -1,10 +1,9 @@
 -- A plan lies within the ranges and meets every row, whatever the lines say: at a plan no row fails and no unknown is open, so that the
 -- least value of each row is its value at the lows. It rests on the firm trail and on what an adviser's choice is.
-use Rattle.std.proofs.Common.{◌≡◌, ℕ, ◌<◌, Bool, true, false, not, ◌||◌, eqb, ◌⊎◌, List, [], ◌∷◌, length, ℤ, pos, ◌+ℤ◌, ◌*ℤ◌, Ok, Err, Result, sym, refl, ap, ◌∙◌, subst, inl, inr, arith}
+use Rattle.std.proofs.Common.{◌≡◌, ℕ, ◌<◌, Bool, true, false, not, eqb, ◌⊎◌, List, [], length, ℤ, pos, ◌+ℤ◌, ◌*ℤ◌, Ok, Err, Result, sym, refl, ap, ◌∙◌, subst, inl, inr, arith}
 use borrow.Author.Differences.{ints}
 use Rattle.std.proofs.lemmas.List.{length-map, get_or-map}
 use Rattle.std.proofs.lemmas.Bool.{eqb-true, true≢false}
-use Rattle.calculus.specs.Account.{when, answered}
 use Rattle.calculus.specs.Advice.{Advice, Advises, advised}
 use Rattle.calculus.specs.Arithmetic.{sum}
 use Rattle.calculus.specs.Bounds.{Trail, low, high, lows, highs, term, least, row_at, fails_under}
@@ -18,7 +17,6 @@ use Rattle.calculus.specs.declared.endings.Ending.{Ending}
 use Rattle.calculus.specs.declared.endings.Ending.TheVariants.{Plan}
 use Rattle.calculus.specs.declared.ranges.Range.{Range}
 use Rattle.calculus.specs.declared.refusals.Refusal.{Refusal}
-use Rattle.calculus.specs.declared.refusals.Refusal.TheVariants.{List as NoList, Misfit}
 use Rattle.calculus.specs.declared.sides.Side.TheVariants.{Low}
 use Rattle.calculus.proofs.Advising.{choice_open, told_like}
 use Rattle.calculus.proofs.BetterBounds.{sum_same, term_at}
@@ -26,7 +24,7 @@ use Rattle.calculus.proofs.Firm.{InOrder, Firm, fit_order, firm_within, lows_at,
 use Rattle.calculus.proofs.Tabling.{table_long}
 use Rattle.calculus.proofs.Firsts.{first_conflict}
 use Rattle.calculus.proofs.Meeting.{within_each, meets_each}
-use Rattle.calculus.proofs.Running.{run_keeps, act_step}
+use Rattle.calculus.proofs.Running.{run_keeps, begins_fit, act_step}
 use Rattle.calculus.proofs.Stepping.{Hears, Fine, act_ok}
 use Rattle.calculus.proofs.Unmoved.{Calm, Rest, act_rest}
 
@@ -140,17 +138,12 @@ plan_phase looking h = absurd cc
 plan_phase (repairing j line place) h = absurd cc
 plan_phase (ended e) h = ap ended h
 
--- the tests before a run let only an adviser for as many unknowns pass
-fit_advised : (b d e : Bool) (u : Unit {0}) → answered (when b NoList ∷ when (not d || e) Misfit ∷ []) tt ≡ Ok u → d ≡ true
-fit_advised true d e u h = absurd cc
-fit_advised false true e u h = refl
-fit_advised false false e u h = absurd cc
-
+-- a run begins only with an adviser for as many unknowns
 begins_advised : (rs : List Range) (a : Advice) (log : Logbook) (plan : List ℤ) (u : Unit {0}) → begin_answer rs a log plan ≡ Ok u →
     advised a ≡ length rs
 begins_advised rs a log plan u h =
-    let e = fit_advised (not (eqb (length plan) (length rs))) (eqb (advised a) (length rs)) (not (eqb log.unknowns (length rs))) u h in
-    eqb-true (advised a) (length rs) e
+    eqb-true (advised a) (length rs)
+    (begins_fit (not (eqb (length plan) (length rs))) (eqb (advised a) (length rs)) (eqb log.unknowns (length rs)) u h).0
 
 -- the rows without their labels, by place
 rows_meet : (xs : List ℤ) (rows : List Standing) → ((q : ℕ) → q < length (rows_of rows) → Meets xs (row_at (rows_of rows) q)) →

@@ -342,12 +342,7 @@ moves_within rs rows a log plan budget = moves_by _ rs (rows_of rows) a log plan
 lasting_not_spent : (p : Phase) → Lasts p → ending_of p ≡ Refused Spent → is_over p ≡ false
 lasting_not_spent looking h e = refl
 lasting_not_spent (repairing j line place) h e = refl
-lasting_not_spent (ended x) (inl h) e = absurd cc
-lasting_not_spent (ended x) (inr (inl h)) e = absurd cc
-lasting_not_spent (ended x) (inr (inr (inl h))) e = absurd cc
-lasting_not_spent (ended x) (inr (inr (inr (inl h)))) e = absurd cc
-lasting_not_spent (ended x) (inr (inr (inr (inr (inl h))))) e = absurd cc
-lasting_not_spent (ended x) (inr (inr (inr (inr (inr h))))) e = absurd h
+lasting_not_spent (ended x) h e = absurd (grind arith)
 
 -- a run that rests and is not over has made as many moves as its budget
 resting_moves : (over : Bool) (c : Context) (budget : ℕ) (g : Progress) → is_over g.at.phase ≡ over → over ≡ false →
@@ -370,6 +365,14 @@ not_first : (b d : Bool) → answered {A = Unit {0}} (when b NoList ∷ when d M
 not_first true d h = absurd cc
 not_first false true h = absurd cc
 not_first false false h = absurd cc
+
+-- and let only an adviser and a log for as many unknowns pass
+pub begins_fit : (b d e : Bool) (u : Unit {0}) → answered {A = Unit {0}} (when b NoList ∷ when (not d || not e) Misfit ∷ []) tt ≡ Ok u →
+    (d ≡ true) × (e ≡ true)
+begins_fit true d e u h = absurd cc
+begins_fit false false e u h = absurd cc
+begins_fit false true false u h = absurd cc
+begins_fit false true true u h = (refl, refl)
 
 spent_by : (r : Result (Unit {0}) Refusal) (rs : List Range) (rows : List Row) (a : Advice) (log : Logbook) (plan : List ℤ) (budget : ℕ) →
     (r ≡ Err Spent → ⊥) → length rs ≤ most_unknowns →

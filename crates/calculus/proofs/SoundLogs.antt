@@ -1,12 +1,13 @@
 -- Logs are sound: an assignment within the ranges that meets every row meets every line that is made from them, and no assignment meets
 -- a row that contradicts. So a log that a check accepts excludes every plan. Rests on Good, on Leasts and on Reduction.
-use Rattle.std.proofs.Common.{◌≡◌, ℕ, zero, suc, ◌-◌, ◌/◌, ◌%◌, ◌<◌, Bool, true, false, not, ◌&&◌, eqb, ltb, List, [], ◌∷◌, ◌++◌, map, length, take, set, replicate, ℤ, pos, negsuc, ◌+ℤ◌, ◌*ℤ◌, neg_ℤ, nat_abs, ◌≤ℤ◌, Some, None, Ok, Err, Option, Result, sym, refl, ap, ◌∙◌, subst, arith}
-use native.Mathlib.Nat.{div-add-mod}
+use Rattle.std.proofs.Common.{◌≡◌, ℕ, zero, suc, ◌-◌, ◌%◌, ◌<◌, Bool, true, false, not, ◌&&◌, eqb, ltb, List, [], ◌∷◌, ◌++◌, map, length, take, ℤ, pos, negsuc, ◌+ℤ◌, ◌*ℤ◌, neg_ℤ, nat_abs, ◌≤ℤ◌, Some, None, Ok, Err, Option, Result, sym, refl, ap, ◌∙◌, subst, arith}
 use borrow.Author.Differences.{ints}
+use lib.IntN.{zero-*ℤ}
 use lib.Signed.{lt_z}
 use Rattle.std.proofs.ByRecursion.{All-get_or, All-map}
-use Rattle.std.proofs.lemmas.List.{append-nil, append_assoc, length-take-le, length-replicate, get_or-take, get_or-set_same, get_or-set_other}
+use Rattle.std.proofs.lemmas.List.{append-nil, append_assoc, length-take-le, get_or-take}
 use Rattle.std.proofs.lemmas.Bool.{and_parts, eqb-true, ltb-true}
+use Rattle.std.proofs.lemmas.Nat.Gcd.{dvd-zero, dvd_of_mod-eq-zero}
 use Rattle.calculus.specs.Account.{when, answered}
 use Rattle.calculus.specs.Arithmetic.{sum, floor, same_number}
 use Rattle.calculus.specs.Bounds.{range_at, row_at}
@@ -25,12 +26,12 @@ use Rattle.calculus.specs.declared.kinds.Kind.TheVariants.{Low, High, Row as Pla
 use Rattle.calculus.specs.declared.ranges.Range.{Range}
 use Rattle.calculus.specs.declared.refusals.Refusal.{Refusal}
 use Rattle.calculus.specs.declared.refusals.Refusal.TheVariants.{Operand, Multiplier, Mismatch}
-use Rattle.calculus.proofs.BetterBounds.{sum_same, sum_only}
+use Rattle.calculus.proofs.BetterBounds.{sum_same, sum_zero, sum_only}
 use Rattle.calculus.proofs.Good.{CutsWell, Made, Good}
-use Rattle.calculus.proofs.Ints.{distrib, assoc, mul_neg, times_le, floor_times, rounded_down, sum_times}
-use Rattle.calculus.proofs.Leasts.{sum_plus, coef_added, coef_map, coef_cut, mixed}
+use Rattle.calculus.proofs.Ints.{distrib, assoc, times_le, rounded_down, sum_times}
+use Rattle.calculus.proofs.Leasts.{sum_plus, coef_added, coef_map, coef_cut, lone_here, lone_else, mixed}
 use Rattle.calculus.proofs.Meeting.{within_each}
-use Rattle.calculus.proofs.Reduction.{same_number_decides, same_row_decides}
+use Rattle.calculus.proofs.Reduction.{floor_exact, same_number_decides, same_row_decides}
 
 -- ---- sums of rows
 
@@ -77,18 +78,11 @@ meets_combined xs k p m q h l =
 
 -- ---- cuts
 
--- a coefficient that divides is k times its quotient
-pub exact : (k : ℕ) (c : ℤ) → 0 < k → nat_abs c % k ≡ 0 → pos k *ℤ floor c k ≡ c
-exact k (pos a) l h = let d = div-add-mod a k in omega (arith, ints)
-exact k (negsuc a) l h =
-    let d = div-add-mod (suc a) k in
-    let m = mul_neg (pos k) (pos (suc a / k)) in
-    let e : negsuc a ≡ pos k *ℤ neg_ℤ (pos (suc a / k)) = omega (arith, ints) in
-    ap (λ (z : ℤ). pos k *ℤ floor z k) e ∙ ap (λ (z : ℤ). pos k *ℤ z) (floor_times (neg_ℤ (pos (suc a / k))) k l) ∙ sym e
-
+-- coefficients that divide are k times their quotients
 pub exact_all : (k : ℕ) (cs : List ℤ) (i : ℕ) → 0 < k → all_divide k cs ≡ true → pos k *ℤ floor (coef cs i) k ≡ coef cs i
-exact_all k [] i l h = exact k (pos 0) l (let d = div-add-mod 0 k in omega arith)
-exact_all k (c ∷ cs) zero l h = exact k c l (eqb-true (nat_abs c % k) 0 (and_parts (eqb (nat_abs c % k) 0) (all_divide k cs) h).0)
+exact_all k [] i l h = floor_exact k (pos 0) l (dvd-zero k)
+exact_all k (c ∷ cs) zero l h =
+    floor_exact k c l (dvd_of_mod-eq-zero k (eqb-true (nat_abs c % k) 0 (and_parts (eqb (nat_abs c % k) 0) (all_divide k cs) h).0))
 exact_all k (c ∷ cs) (suc i) l h = exact_all k cs i l (and_parts (eqb (nat_abs c % k) 0) (all_divide k cs) h).1
 
 pub meets_cut : (xs : List ℤ) (k : ℕ) (p : Row) → 0 < k → all_divide k p.coefs ≡ true → Meets xs p → Meets xs (cut k p)
@@ -104,32 +98,15 @@ meets_cut xs k p l h meets =
 
 -- ---- the rows of ranges
 
-zeros : (n i : ℕ) → coef (replicate n (pos 0)) i ≡ pos 0
-zeros zero i = refl
-zeros (suc n) zero = refl
-zeros (suc n) (suc i) = zeros n i
-
-sum_zero : (n : ℕ) (f : ℕ → ℤ) → ((i : ℕ) → f i ≡ pos 0) → sum n f ≡ pos 0
-sum_zero zero f h = refl
-sum_zero (suc n) f h = let e = sum_zero n f h in let d = h n in omega (arith, ints)
-
-zero_times : (z : ℤ) → pos 0 *ℤ z ≡ pos 0
-zero_times z = omega (arith, ints)
-
 pub value_lone : (xs : List ℤ) (x : ℕ) (a k : ℤ) → x < length xs → value xs (lone (length xs) x a k) ≡ a *ℤ coef xs x +ℤ k
 value_lone xs x a k l =
     let n = length xs in
-    let cs = set (replicate n (pos 0)) x a in
-    let f : ℕ → ℤ = λ i. coef cs i *ℤ coef xs i in
+    let f : ℕ → ℤ = λ i. coef (lone n x a k).coefs i *ℤ coef xs i in
     let g : ℕ → ℤ = λ i. pos 0 in
-    let long = length-replicate n (pos 0) in
-    let here : coef cs x ≡ a = get_or-set_same (replicate n (pos 0)) x a (pos 0) (omega arith) in
     let s : sum n f +ℤ g x ≡ sum n g +ℤ f x =
-    sum_only n x f g l
-    (λ i d. ap (λ (z : ℤ). z *ℤ coef xs i) (get_or-set_other (replicate n (pos 0)) x i a (pos 0) (λ e. d (sym e)) ∙ zeros n i)
-    ∙ zero_times (coef xs i)) in
+    sum_only n x f g l (λ i d. ap (λ (z : ℤ). z *ℤ coef xs i) (lone_else n x i a k d) ∙ zero-*ℤ (coef xs i)) in
     let z : sum n g ≡ pos 0 = sum_zero n g (λ i. refl) in
-    let e : f x ≡ a *ℤ coef xs x = ap (λ (u : ℤ). u *ℤ coef xs x) here in
+    let e : f x ≡ a *ℤ coef xs x = ap (λ (u : ℤ). u *ℤ coef xs x) (lone_here n x a k l) in
     omega (arith, ints)
 
 meets_low : (rs : List Range) (xs : List ℤ) (x : ℕ) → Within rs xs → x < length rs → Meets xs (low_row rs x)
@@ -210,7 +187,7 @@ contradicts_none xs r h m =
     let both = and_parts (all_zero r.coefs) (lt_z (pos 0) r.constant) h in
     let z : sum (length xs) (λ i. coef r.coefs i *ℤ coef xs i) ≡ pos 0 =
     sum_zero (length xs) (λ i. coef r.coefs i *ℤ coef xs i)
-    (λ i. ap (λ (u : ℤ). u *ℤ coef xs i) (zero_coefs r.coefs i both.0) ∙ zero_times (coef xs i)) in
+    (λ i. ap (λ (u : ℤ). u *ℤ coef xs i) (zero_coefs r.coefs i both.0) ∙ zero-*ℤ (coef xs i)) in
     let up : lt_z (pos 0) r.constant ≡ true = both.1 in
     omega (arith, ints)
 
@@ -301,21 +278,21 @@ right_lines rs rows before (l ∷ ls) h (suc q) k =
     (right_lines rs rows (before ++ l ∷ []) ls (wrong_none (judged rs rows before l) _ _ h).1 q (omega arith))
 
 pub found_none : (b : Bool) (o : Option Objection) (c : Bool) (held : ℕ) → fit_or b (line_or o (open_unless c held)) ≡ None →
-    (o ≡ None) × (c ≡ true)
+    (b ≡ true) × (o ≡ None) × (c ≡ true)
 found_none false o c held h = absurd cc
 found_none true (Some o) c held h = absurd cc
 found_none true None false held h = absurd cc
-found_none true None true held h = (refl, refl)
+found_none true None true held h = (refl, refl, refl)
 
 -- the lines of an accepted log are made as their kinds say, and its last one contradicts
 pub accepted_good : (rs : List Range) (rows : List Standing) (log : Logbook) → check_end rs rows log ≡ None →
     Good rs (rows_of rows) log.lines × (closes log.lines ≡ true)
 accepted_good rs rows log h =
-    let both = found_none (eqb log.unknowns (length rs)) (wrong_from rs (rows_of rows) [] log.lines) (closes log.lines)
+    let tests = found_none (eqb log.unknowns (length rs)) (wrong_from rs (rows_of rows) [] log.lines) (closes log.lines)
     (length log.lines) h in (
       λ q l. justified_made rs (rows_of rows) (take q log.lines) (line_at log.lines q)
-          (right_lines rs (rows_of rows) [] log.lines both.0 q l),
-      both.1,
+          (right_lines rs (rows_of rows) [] log.lines tests.1 q l),
+      tests.2,
     )
 
 -- standing rows are met as rows

@@ -2,9 +2,8 @@
 -- Then so does every machine of a run. Rests on GoodLogs, Reasons and Keeping.
 use Rattle.std.proofs.Common.{◌≡◌, ℕ, zero, suc, ◌+◌, ◌<◌, ◌≤◌, Bool, true, false, List, [], ◌∷◌, ◌++◌, length, replicate, ℤ, pos, negsuc, neg_ℤ, sym, refl, ap, ◌∙◌, subst, ⊎_elim, arith}
 use borrow.Author.Differences.{ints}
-use Rattle.std.proofs.lemmas.List.{append-nil, append_assoc, length-append, length-set, length-replicate, get_or_past, get_or_at, get_or-set_same, get_or-set_other, get_or-append-add}
-use Rattle.std.proofs.lemmas.Bool.{cases_eq, or_left}
-use Rattle.std.proofs.lemmas.Bool.Decides.{Decides-ltb}
+use Rattle.std.proofs.lemmas.List.{append-nil, append_assoc, length-append, length-set, length-replicate, get_or_past, get_or_at, get_or-append-add}
+use Rattle.std.proofs.lemmas.Bool.{cases_eq, or_left, lt-ltb}
 use Rattle.calculus.specs.Advice.{Advice}
 use Rattle.calculus.specs.Bounds.{Trail, low, high, least, without, range_at, row_at}
 use Rattle.calculus.specs.Logs.{Line, no_line, line_at, line_row}
@@ -25,7 +24,7 @@ use Rattle.calculus.proofs.Tabling.{table_long, table_at}
 use Rattle.calculus.proofs.Good.{Made}
 use Rattle.calculus.proofs.GoodLogs.{Sound, sound_more, sound_take}
 use Rattle.calculus.proofs.Keeping.{WellAt, act_well}
-use Rattle.calculus.proofs.Leasts.{coef_else}
+use Rattle.calculus.proofs.Leasts.{coef_else, lone_here, lone_else}
 use Rattle.calculus.proofs.Reasons.{Reason, Held, held_grown}
 use Rattle.calculus.proofs.Resolving.{unit, toward, Tight}
 use Rattle.calculus.proofs.Running.{run_keeps}
@@ -33,17 +32,6 @@ use Rattle.calculus.proofs.Stepping.{grown_same}
 use Rattle.calculus.proofs.Tightens.{plain_least}
 
 -- ---- rows with one coefficient
-
-nought_coef : (n i : ℕ) → coef (replicate n (pos 0)) i ≡ pos 0
-nought_coef zero i = refl
-nought_coef (suc n) zero = refl
-nought_coef (suc n) (suc i) = nought_coef n i
-
-lone_here : (n x : ℕ) (a k : ℤ) → x < n → coef (lone n x a k).coefs x ≡ a
-lone_here n x a k l = let e = length-replicate n (pos 0) in get_or-set_same (replicate n (pos 0)) x a (pos 0) (omega arith)
-
-lone_else : (n x i : ℕ) (a k : ℤ) → (x ≡ i → ⊥) → coef (lone n x a k).coefs i ≡ pos 0
-lone_else n x i a k d = get_or-set_other (replicate n (pos 0)) x i a (pos 0) (λ e. d (sym e)) ∙ nought_coef n i
 
 lone_bare : (n x : ℕ) (a k : ℤ) → Bare n (lone n x a k)
 lone_bare n x a k y l =
@@ -78,17 +66,17 @@ lone_reason rs ls t q x s v k held known is e =
 low_made : (rs : List Range) (rows : List Row) (ls : List Line) (x : ℕ) → x < length rs →
     Made rs rows ls (line_of (LowLine x) (low_row rs x))
 low_made rs rows ls x l =
-    record { kind = LowLine x; fields = refl; there = (Decides-ltb x (length rs)).1 l; earlier = refl; is = refl; cuts = tt }
+    record { kind = LowLine x; fields = refl; there = lt-ltb x (length rs) l; earlier = refl; is = refl; cuts = tt }
 
 high_made : (rs : List Range) (rows : List Row) (ls : List Line) (x : ℕ) → x < length rs →
     Made rs rows ls (line_of (HighLine x) (high_row rs x))
 high_made rs rows ls x l =
-    record { kind = HighLine x; fields = refl; there = (Decides-ltb x (length rs)).1 l; earlier = refl; is = refl; cuts = tt }
+    record { kind = HighLine x; fields = refl; there = lt-ltb x (length rs) l; earlier = refl; is = refl; cuts = tt }
 
 row_made : (rs : List Range) (rows : List Row) (ls : List Line) (p : ℕ) → p < length rows →
     Made rs rows ls (line_of (Placed p) (row_at rows p))
 row_made rs rows ls p l =
-    record { kind = Placed p; fields = refl; there = (Decides-ltb p (length rows)).1 l; earlier = refl; is = refl; cuts = tt }
+    record { kind = Placed p; fields = refl; there = lt-ltb p (length rows) l; earlier = refl; is = refl; cuts = tt }
 
 none_sound : (rs : List Range) (rows : List Row) → Sound rs rows []
 none_sound rs rows = record { good = λ q l. absurd (omega arith); bare = λ q y l. refl }

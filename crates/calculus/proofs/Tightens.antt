@@ -11,18 +11,17 @@ use Rattle.calculus.specs.Bounds.{Trail, here_or, low, high, term, least, withou
 use Rattle.calculus.specs.Logs.{Line, line_row, fields_of, Written}
 use Rattle.calculus.specs.RunLaws.{Grown}
 use Rattle.calculus.specs.Rows.{Row, coef, cut}
-use Rattle.calculus.specs.Tables.{picked}
 use Rattle.calculus.specs.Tightening.{left_open, open_part, Narrowing, going, stopped, finished_by, finished, tightened}
 use Rattle.calculus.specs.declared.kinds.Kind.TheVariants.{Cut}
 use Rattle.calculus.specs.declared.ranges.Range.{Range}
 use Rattle.calculus.specs.declared.sides.Side.{Side}
 use Rattle.calculus.specs.declared.sides.Side.TheVariants.{Low, High}
 use Rattle.calculus.specs.declared.trails.Bound.{Bound}
-use Rattle.calculus.proofs.BetterBounds.{sum_same, least_split}
+use Rattle.calculus.proofs.BetterBounds.{picked_only, sum_zero, term_zero, sum_same, least_split}
 use Rattle.calculus.proofs.Covering.{Complete, Covered, CoveredBut, Bare, complete_covers, covered_none, bare_cut}
 use Rattle.calculus.proofs.Descending.{under, aside_sum, Kept}
 use Rattle.calculus.proofs.Firm.{InOrder, Firm, better_nearer}
-use Rattle.calculus.proofs.BetterBounds.{Nearer}
+use Rattle.calculus.proofs.BetterBounds.{picked_only, sum_zero, term_zero, Nearer}
 use Rattle.calculus.proofs.GoodLogs.{Sound, sound_more, grown_one, last_row, last_held, Wrote, wrote, cut_made}
 use Rattle.calculus.proofs.Ints.{times_le, times_next, ceiling_rounds, ceiling_one, floor_times}
 use Rattle.calculus.proofs.Leasts.{sum_plus, coef_map, coef_cut, Divided, cut_rest}
@@ -40,17 +39,13 @@ pub record Says (a rest : ℤ) (b : Bound) : Type 0 where
   pub sign : a ≡ pos (nat_abs a) *ℤ unit b.side
   pub value : toward b.side b.value ≡ ceiling rest (nat_abs a)
 
-pub picked_is : {Y : Type 0} (t : Bool) (y z : Y) → picked t y ≡ Some z → y ≡ z
-picked_is true y z h = cc
-picked_is false y z h = absurd cc
-
 pub says : (a rest lo hi : ℤ) (b : Bound) → bounded a rest lo hi ≡ Some b → Says a rest b
 says (pos zero) rest lo hi b h = absurd cc
 says (pos (suc a)) rest lo hi b h =
-    subst (Says (pos (suc a)) rest) (picked_is (le_z lo (floor (neg_ℤ rest) (suc a)) && lt_z (floor (neg_ℤ rest) (suc a)) hi) _ b h)
+    subst (Says (pos (suc a)) rest) (picked_only (le_z lo (floor (neg_ℤ rest) (suc a)) && lt_z (floor (neg_ℤ rest) (suc a)) hi) _ b h).1
     (record { some = omega arith; sign = omega (arith, ints); value = refl })
 says (negsuc a) rest lo hi b h =
-    subst (Says (negsuc a) rest) (picked_is (lt_z lo (ceiling rest (suc a)) && le_z (ceiling rest (suc a)) hi) _ b h)
+    subst (Says (negsuc a) rest) (picked_only (lt_z lo (ceiling rest (suc a)) && le_z (ceiling rest (suc a)) hi) _ b h).1
     (record { some = omega arith; sign = omega (arith, ints); value = refl })
 
 -- ---- the start
@@ -119,13 +114,8 @@ pub record Closed (rs : List Range) (whole : Trail) (x d : ℕ) (r row : Row) : 
 pub plain_least : (n : ℕ) (lo hi : ℕ → ℤ) (r : Row) → ((i : ℕ) → coef r.coefs i ≡ pos 0) → least n lo hi r ≡ r.constant
 plain_least n lo hi r h =
     let z : sum n (λ i. term (coef r.coefs i) (lo i) (hi i)) ≡ pos 0 =
-    sum_same n (λ i. term (coef r.coefs i) (lo i) (hi i)) (λ i. pos 0)
-    (λ i l. ap (λ (z : ℤ). term z (lo i) (hi i)) (h i) ∙ omega (arith, ints)) ∙ nothing n in
+    sum_zero n (λ i. term (coef r.coefs i) (lo i) (hi i)) (λ i. term_zero (coef r.coefs i) (lo i) (hi i) (h i)) in
     omega (arith, ints)
-  where
-    nothing : (n : ℕ) → sum n (λ i. pos 0) ≡ pos 0
-    nothing zero = refl
-    nothing (suc n) = let e = nothing n in omega (arith, ints)
 
 pub kept_closed : (rs : List Range) (whole : Trail) (x d : ℕ) (r row part : Row) → Kept rs whole x d r [] row part →
     Closed rs whole x d r row

@@ -1,10 +1,10 @@
 -- What a check answers: accepted just where every line is justified and the last one contradicts, and each objection with its reason.
-use Rattle.std.proofs.Common.{◌≡◌, ℕ, zero, suc, ◌+◌, ◌-◌, ◌<◌, ◌≤◌, Bool, true, false, ◌&&◌, eqb, ltb, List, [], ◌∷◌, ◌++◌, length, take, Some, None, Ok, Err, Option, Result, sym, refl, ap, ◌∙◌, subst, arith, eq-eqb}
+use Rattle.std.proofs.Common.{◌≡◌, ℕ, zero, suc, ◌+◌, ◌<◌, ◌≤◌, Bool, true, false, eqb, ltb, List, [], ◌∷◌, ◌++◌, length, take, Some, None, Ok, Err, Option, Result, sym, refl, ap, ◌∙◌, subst, arith, eq-eqb}
 use Rattle.std.proofs.lemmas.List.{append-nil, append_assoc, length-append}
-use Rattle.std.proofs.lemmas.Bool.Decides.{nat_tests}
+use Rattle.std.proofs.lemmas.Bool.{and_parts, ltb-true, eqb-true}
 use Rattle.calculus.specs.CheckLaws.{AcceptsRight, MisfitIs, FirstWrong, OpenIs}
-use Rattle.calculus.specs.Checking.{judged, Justified, wrong_or, wrong_from, contradicts, closes, open_unless, line_or, fit_or, check_end}
-use Rattle.calculus.specs.Logs.{Line, Logbook, line_at, line_row}
+use Rattle.calculus.specs.Checking.{judged, Justified, wrong_or, wrong_from, closes, open_unless, line_or, fit_or, check_end}
+use Rattle.calculus.specs.Logs.{Line, Logbook, line_at}
 use Rattle.calculus.specs.Rows.{Row, Standing}
 use Rattle.calculus.specs.Runs.{rows_of}
 use Rattle.calculus.specs.declared.endings.Objection.{Objection}
@@ -82,30 +82,23 @@ origin_of : (rs : List Range) (rows : List Standing) (log : Logbook) (o : Object
     Origin (eqb log.unknowns (length rs)) (wrong_from rs (rows_of rows) [] log.lines) (closes log.lines) (length log.lines) o
 origin_of rs rows log o h = origin _ _ _ _ o h
 
-fits_by : (b : Bool) (lines : Option Objection) (m n : ℕ) → eqb m n ≡ b → fit_or b lines ≡ None → m ≡ n
-fits_by true lines m n e h = grind (arith, nat_tests)
-fits_by false lines m n e h = absurd cc
-
 closes_some : (ls : List Line) → closes ls ≡ true → 1 ≤ length ls
-closes_some ls h = by (ltb 0 (length ls)) refl h
-  where
-    by : (b : Bool) → ltb 0 (length ls) ≡ b → (b && contradicts (line_row ls (length ls - 1))) ≡ true → 1 ≤ length ls
-    by true e h = grind (arith, nat_tests)
-    by false e h = absurd (grind arith)
+closes_some ls h = ltb-true 0 (length ls) (and_parts (ltb 0 (length ls)) _ h).0
 
 pub accepts_right : AcceptsRight
 accepts_right rs rows log =
     let ls = log.lines in
-    let parts : check_end rs rows log ≡ None → (wrong_from rs (rows_of rows) [] ls ≡ None) × (closes ls ≡ true) =
+    let parts : check_end rs rows log ≡ None →
+    (eqb log.unknowns (length rs) ≡ true) × (wrong_from rs (rows_of rows) [] ls ≡ None) × (closes ls ≡ true) =
     λ h. found_none (eqb log.unknowns (length rs)) (wrong_from rs (rows_of rows) [] ls) (closes ls) (length ls) h in (
       λ h. (
-        fits_by (eqb log.unknowns (length rs)) _ log.unknowns (length rs) refl h,
-        right_lines rs (rows_of rows) [] ls (parts h).0,
-        (parts h).1,
+        eqb-true log.unknowns (length rs) (parts h).0,
+        right_lines rs (rows_of rows) [] ls (parts h).1,
+        (parts h).2,
       ),
       λ n each h. found_nothing (eqb log.unknowns (length rs)) (wrong_from rs (rows_of rows) [] ls) (closes ls) (length ls)
           (eq-eqb log.unknowns (length rs) n) (none_wrong rs (rows_of rows) [] ls each) h,
-      λ h. (closes_some ls (parts h).1, omega arith),
+      λ h. (closes_some ls (parts h).2, omega arith),
     )
 
 pub misfit_is : MisfitIs

@@ -5,6 +5,7 @@ use Rattle.std.specs.List.{AllByRecursion}
 use Rattle.std.proofs.ByRecursion.{All-get_or, All-from_get_or}
 use Rattle.std.proofs.lemmas.List.{append-nil, append_assoc, length-take-le}
 use Rattle.std.proofs.lemmas.Bool.{and_parts, and_from, ltb-true, lt-ltb, le-leb, eq-eqb}
+use Rattle.std.proofs.lemmas.Bool.Decides.{nat_tests}
 use Rattle.calculus.specs.Account.{when, answered}
 use Rattle.calculus.specs.Checking.{same_fields, kind_or, kind_of, operands, all_below, subject_there, given, may_give}
 use Rattle.calculus.specs.Checking.{multipliers_fit, judged_kind, judged, Justified, wrong_or, wrong_from, closes}
@@ -27,13 +28,8 @@ use Rattle.calculus.proofs.Reduction.{same_row_decides}
 
 -- ---- the kind of a line
 
-same_again : (n : ℕ) → eqb n n ≡ true
-same_again n = eq-eqb n n refl
-
 same_fields_again : (f : Fields) → same_fields f f ≡ true
-same_fields_again f =
-    and_from _ _ (same_again f.kind)
-    (and_from _ _ (same_again f.i) (and_from _ _ (same_again f.j) (and_from _ _ (same_again f.k) (same_again f.m))))
+same_fields_again f = grind (arith, nat_tests)
 
 kind_first : (k : Kind) (later : Option Kind) → kind_or (same_fields (fields_of k) (fields_of k)) k later ≡ Some k
 kind_first k later = ap (λ (b : Bool). kind_or b k later) (same_fields_again (fields_of k))

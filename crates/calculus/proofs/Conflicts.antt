@@ -1,12 +1,13 @@
 -- Repair keeps a conflict failing and covered; where a decision cannot be dropped the conflict bounds its unknown better.
 -- Rests on Resolving, Covering and Reasons.
 use Rattle.std.specs.Prelude.{None}
-use Rattle.std.proofs.Common.{◌≡◌, ℕ, zero, suc, ◌<◌, ◌≤◌, Bool, true, false, ◌&&◌, List, [], ◌∷◌, length, ℤ, pos, negsuc, ◌+ℤ◌, ◌*ℤ◌, neg_ℤ, nat_abs, ◌≤ℤ◌, ◌<ℤ◌, Some, sym, refl, ap, ◌∙◌, subst, ⊎_elim, arith}
+use Rattle.std.proofs.Common.{◌≡◌, ℕ, zero, suc, ◌<◌, ◌≤◌, Bool, true, false, ◌&&◌, List, ◌∷◌, length, ℤ, pos, negsuc, ◌+ℤ◌, ◌*ℤ◌, neg_ℤ, nat_abs, ◌≤ℤ◌, ◌<ℤ◌, Some, sym, refl, ap, ◌∙◌, subst, ⊎_elim, arith}
 use Prim.Native.Nat.{◌∣◌}
 use native.Mathlib.Nat.{mod-eq-zero_of_dvd}
 use borrow.Author.Differences.{ints}
 use lib.Signed.{le_z, lt_z}
 use Rattle.std.proofs.ByRecursion.{All-get_or}
+use Rattle.std.proofs.lemmas.List.{get_or_past}
 use Rattle.std.proofs.lemmas.Int.{by_lt_z}
 use Rattle.std.proofs.lemmas.Bool.{cases_lt}
 use Rattle.calculus.specs.Advice.{turned_side}
@@ -73,13 +74,10 @@ pub conflict_dropped : (rs : List Range) (t : Trail) (j : Row) → fails_under r
     Conflict rs t j
 conflict_dropped rs t j f complete bare =
     record {
-      fails = by_lt_z (pos 0) (under rs t j) (λ h. h) (λ h. absurd (clash f h));
+      fails = omega (arith, ints);
       covered = complete_covers rs t j complete bare;
       bare = bare;
     }
-  where
-    clash : lt_z (pos 0) (under rs t j) ≡ true → under rs t j ≤ℤ pos 0 → ⊥
-    clash f h = omega (arith, ints)
 
 -- ---- reduction
 
@@ -89,13 +87,8 @@ common_multiple cs i =
     ⊎_elim
     (λ (l : i < length cs). multiple_mod (common cs) (coef cs i)
     (mod-eq-zero_of_dvd (common cs) (All-get_or (λ c. common cs ∣ nat_abs c) cs i (pos 0) l (common_divides cs))))
-    (λ (l : length cs ≤ i). subst (Multiple (common cs)) (sym (past cs i l)) (multiple_zero (common cs)))
+    (λ (l : length cs ≤ i). subst (Multiple (common cs)) (sym (get_or_past cs i (pos 0) l)) (multiple_zero (common cs)))
     (cases_lt i (length cs))
-  where
-    past : (cs : List ℤ) (i : ℕ) → length cs ≤ i → coef cs i ≡ pos 0
-    past [] i l = refl
-    past (c ∷ cs) zero l = absurd (omega arith)
-    past (c ∷ cs) (suc i) l = past cs i (omega arith)
 
 pub conflict_cut : (rs : List Range) (t : Trail) (j : Row) → 0 < common j.coefs → Conflict rs t j →
     Conflict rs t (cut (common j.coefs) j)
@@ -189,7 +182,4 @@ bounds_by true rs e t j m c sits why l =
 -- a decision that may not be dropped: the conflict bounds its unknown better
 pub conflict_bounds : (rs : List Range) (e : Entry) (t : Trail) (j : Row) → Conflict rs (e ∷ t) j → Sits rs t e → e.cause ≡ None →
     fails_under rs t j ≡ false → (b : Bound) × (better_under rs t j e.unknown ≡ Some b)
-conflict_bounds rs e t j c sits why f = bounds_by _ rs e t j refl c sits why (not_above (under rs t j) f)
-  where
-    not_above : (z : ℤ) → lt_z (pos 0) z ≡ false → z ≤ℤ pos 0
-    not_above z h = omega (arith, ints)
+conflict_bounds rs e t j c sits why f = bounds_by _ rs e t j refl c sits why (omega (arith, ints))

@@ -1,8 +1,7 @@
 -- Lines that a run writes: each is made from those before it. Rests on Good and Reasons.
-use Rattle.std.proofs.Common.{◌≡◌, ℕ, ◌<◌, ◌≤◌, min, Bool, true, false, ◌&&◌, ltb, leb, List, [], ◌∷◌, ◌++◌, length, take, Ok, Err, sym, refl, ap, ◌∙◌, subst, ⊎_elim, arith}
+use Rattle.std.proofs.Common.{◌≡◌, ℕ, ◌<◌, ◌≤◌, min, Bool, true, false, ◌&&◌, leb, List, [], ◌∷◌, ◌++◌, length, take, Ok, Err, sym, refl, ap, ◌∙◌, subst, ⊎_elim, arith}
 use Rattle.std.proofs.lemmas.List.{length-take, get_or-take, length-append, get_or_append_left, get_or_past, get_or_at, take_at, take-append-le, take-take}
-use Rattle.std.proofs.lemmas.Bool.{cases_eq, cases_lt}
-use Rattle.std.proofs.lemmas.Bool.Decides.{Decides-ltb}
+use Rattle.std.proofs.lemmas.Bool.{cases_eq, cases_lt, lt-ltb}
 use Rattle.calculus.specs.Checking.{all_divide}
 use Rattle.calculus.specs.Logs.{Line, no_line, line_at, line_row, fields_of, Written, written, written_by}
 use Rattle.calculus.specs.RunLaws.{Grown}
@@ -108,13 +107,10 @@ sum_made rs rows ls row line q m l e k = record {
   kind = Sum line q 1 m;
   fields = refl;
   there = refl;
-  earlier = λ i. below line l i && (below q k i && true);
+  earlier = λ i. lt-ltb line (length ls) l i && (lt-ltb q (length ls) k i && true);
   is = ap (λ (r : Row). plus r m (line_row ls q)) (sym e) ∙ plus_is_sum (line_row ls line) m (line_row ls q);
   cuts = tt;
 }
-  where
-    below : (q : ℕ) → q < length ls → ltb q (length ls) ≡ true
-    below q l = (Decides-ltb q (length ls)).1 l
 
 pub cut_made : (rs : List Range) (rows : List Row) (ls : List Line) (row : Row) (line k : ℕ) → line < length ls →
     line_row ls line ≡ row → 0 < k →
@@ -123,7 +119,7 @@ cut_made rs rows ls row line k l e p d = record {
   kind = Cut line k;
   fields = refl;
   there = refl;
-  earlier = ap (λ (b : Bool). b && true) ((Decides-ltb line (length ls)).1 l);
+  earlier = ap (λ (b : Bool). b && true) (lt-ltb line (length ls) l);
   is = ap (cut k) (sym e);
   cuts = (p, ap (λ (r : Row). all_divide k r.coefs) e ∙ d);
 }

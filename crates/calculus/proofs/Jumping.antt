@@ -1,5 +1,5 @@
 -- A decision that may not be dropped: the conflict has a better bound there, on the other side. Rests on the run's invariant.
-use Rattle.std.proofs.Common.{◌≡◌, zero, suc, Bool, true, false, ◌&&◌, List, ◌∷◌, ℤ, pos, negsuc, neg_ℤ, ◌≤ℤ◌, Some, sym, refl, ap, subst, arith}
+use Rattle.std.proofs.Common.{◌≡◌, zero, suc, Bool, true, false, ◌&&◌, List, ◌∷◌, ℤ, pos, negsuc, neg_ℤ, Some, sym, refl, ap, subst, arith}
 use borrow.Author.Differences.{ints}
 use lib.Signed.{le_z, lt_z}
 use Rattle.calculus.specs.Advice.{turned_side}
@@ -42,11 +42,7 @@ matches_by true rs e t j m c f = refl
 matches_by false rs e t j m c f =
     let past = conflict_past rs e t j c m in
     let g = past.fails in
-    let z : under rs t j ≤ℤ pos 0 = not_above (under rs t j) f in
     absurd (omega (arith, ints))
-  where
-    not_above : (z : ℤ) → lt_z (pos 0) z ≡ false → z ≤ℤ pos 0
-    not_above z h = omega (arith, ints)
 
 pub jump_found : JumpFound
 jump_found rs rows a capacity budget steps fr fs j line place e t phase tops why passes =

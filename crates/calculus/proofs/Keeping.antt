@@ -5,7 +5,8 @@ use mathlib.Core.Path.{transport}
 use borrow.Author.Differences.{ints}
 use lib.Signed.{lt_z}
 use Rattle.std.proofs.lemmas.List.{length-append}
-use Rattle.std.proofs.lemmas.Bool.Decides.{nat_tests, Decides-ltb}
+use Rattle.std.proofs.lemmas.Bool.{lt-ltb}
+use Rattle.std.proofs.lemmas.Bool.Decides.{nat_tests}
 use Rattle.calculus.specs.Advice.{Advice, choice, told, turned_side}
 use Rattle.calculus.specs.Arithmetic.{common}
 use Rattle.calculus.specs.Bounds.{Trail, low, high, lows, highs, row_at, fails_under, better_under, conflict, propagating}
@@ -298,7 +299,7 @@ module _ (c : Context) (o : InOrder c.ranges) (thin : (p : ℕ) → Bare (length
   closes_last : (ls : List Line) (line : ℕ) (j : Row) → suc line ≡ length ls → line_row ls line ≡ j → contradicts j ≡ true →
       closes ls ≡ true
   closes_last ls line j last is h =
-      let some : ltb 0 (length ls) ≡ true = (Decides-ltb 0 (length ls)).1 (omega arith) in
+      let some : ltb 0 (length ls) ≡ true = lt-ltb 0 (length ls) (omega arith) in
       let at : length ls - 1 ≡ line = omega arith in
       (λ i. some i && (ap (λ (q : ℕ). contradicts (line_row ls q)) at ∙ ap contradicts is ∙ h) i)
 
@@ -311,7 +312,7 @@ module _ (c : Context) (o : InOrder c.ranges) (thin : (p : ℕ) → Bare (length
       let made : Made rs c.rows ls l = record {
         kind = Placed p;
         fields = refl;
-        there = (Decides-ltb p (length c.rows)).1 h.stands.0;
+        there = lt-ltb p (length c.rows) h.stands.0;
         earlier = refl;
         is = h.stands.1;
         cuts = tt;

@@ -10,7 +10,7 @@ use Rattle.calculus.specs.Rows.{Row, coef}
 use Rattle.calculus.specs.Tightening.{plus, matches}
 use Rattle.calculus.specs.declared.sides.Side.{Side}
 use Rattle.calculus.specs.declared.sides.Side.TheVariants.{Low, High}
-use Rattle.calculus.proofs.BetterBounds.{sum_same, least_split}
+use Rattle.calculus.proofs.BetterBounds.{term_zero, sum_same, least_split}
 use Rattle.calculus.proofs.Ints.{distrib, mul_neg, times_le}
 use Rattle.calculus.proofs.Leasts.{sum_plus, sum_but, coef_plus, term_super, mixed}
 
@@ -113,7 +113,7 @@ resolve_least n lo hi lo' hi' x s v j r l los his o m at tight =
     let gone : coef (plus j k r).coefs x ≡ pos 0 =
     coef_plus j k r x ∙ ap (λ (z : ℤ). c +ℤ pos k *ℤ z) tight.here ∙ match_cancel s c m in
     let zero_term : term (coef (plus j k r).coefs x) (lo x) (hi x) ≡ pos 0 =
-    ap (λ (z : ℤ). term z (lo x) (hi x)) gone ∙ omega (arith, ints) in
+    term_zero (coef (plus j k r).coefs x) (lo x) (hi x) gone in
     let split = least_split n lo hi r x l in
     let d = distrib (pos k) (least n lo hi (without x r)) (term (coef r.coefs x) (lo x) (hi x)) in
     let e = ap (λ (z : ℤ). pos k *ℤ z) split in

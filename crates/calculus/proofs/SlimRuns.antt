@@ -8,6 +8,7 @@ use lib.Signed.{lt_z}
 use Rattle.std.specs.List.{AllByRecursion}
 use Rattle.std.proofs.ByRecursion.{All-get_or, All-append, All-set, All-push, All-weaker, All-take, All-map, Decides-by_and}
 use Rattle.std.proofs.lemmas.List.{length-set, length-map, length-replicate}
+use Rattle.std.proofs.lemmas.List.Elements.{recursion_from_All, All-replicate}
 use Rattle.std.proofs.lemmas.Bool.{and_parts, and_from, or_parts, not-false, leb-true, le-leb}
 use Rattle.calculus.specs.Account.{bad_range, heavy}
 use Rattle.calculus.specs.Advice.{Advice, told, choice, turned_side}
@@ -397,14 +398,10 @@ good_ends r h =
       leb-true (nat_abs r.high) end_limit (not-false (near end_limit r.high) both.1),
     )
 
-lean_zeros : (n : ℕ) → AllByRecursion Lean (replicate n (pos 0))
-lean_zeros zero = tt
-lean_zeros (suc n) = (omega arith, lean_zeros n)
-
 small_lone : (n x : ℕ) (a k : ℤ) → Lean a → nat_abs k ≤ end_limit → Small n (lone n x a k)
 small_lone n x a k l h = record {
   long = length-set (replicate n (pos 0)) x a ∙ length-replicate n (pos 0);
-  lean = All-set Lean (replicate n (pos 0)) x a l (lean_zeros n);
+  lean = All-set Lean (replicate n (pos 0)) x a l (recursion_from_All Lean _ (All-replicate Lean n (pos 0) (omega arith)));
   kept = omega arith;
 }
 

@@ -32,7 +32,7 @@ use Rattle.calculus.proofs.Ints.{times_le, times_next, floor_rounds, ceiling_rou
 use Rattle.calculus.proofs.Leasts.{coef_plus, cut_fails}
 use Rattle.calculus.proofs.Multiples.{Multiple, multiple_mod, multiple_zero, multiple_floor}
 use Rattle.calculus.proofs.Reasons.{Reason}
-use Rattle.calculus.proofs.Resolving.{match_term, match_cancel, resolve_least, unmatched_least}
+use Rattle.calculus.proofs.Resolving.{by_match, match_term, match_cancel, resolve_least, unmatched_least}
 
 -- A conflict over a trail: the row fails, and each of its terms has a matching entry.
 pub record Conflict (rs : List Range) (t : Trail) (j : Row) : Type 0 where
@@ -141,11 +141,8 @@ bounded_some (negsuc a) rest lo hi l h =
     )
 
 match_worst : (s : Side) (c lo hi : ℤ) → matches s c ≡ true → decided_value (turned_side s) lo hi ≡ worst c lo hi
-match_worst Low (pos zero) lo hi m = absurd (grind arith)
-match_worst Low (pos (suc a)) lo hi m = refl
-match_worst Low (negsuc a) lo hi m = absurd (grind arith)
-match_worst High (pos a) lo hi m = absurd (grind arith)
-match_worst High (negsuc a) lo hi m = refl
+match_worst s c lo hi m =
+    by_match (λ s c. decided_value (turned_side s) lo hi ≡ worst c lo hi) (λ a. refl) (λ a. refl) s c m
 
 -- the rest of a row does not see an entry on the unknown that is left out
 rest_away : (rs : List Range) (e : Entry) (t : Trail) (j : Row) →

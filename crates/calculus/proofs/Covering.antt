@@ -15,7 +15,7 @@ use Rattle.calculus.proofs.BetterBounds.{coef_without}
 use Rattle.calculus.proofs.Firm.{on_is}
 use Rattle.calculus.proofs.Ints.{mul_neg, times_le}
 use Rattle.calculus.proofs.Leasts.{coef_plus, floor_zero, coef_cut, coef_else}
-use Rattle.calculus.proofs.Resolving.{toward}
+use Rattle.calculus.proofs.Resolving.{toward, by_match}
 
 -- a trail has an entry on y of side s
 abbrev pub has : Side → ℕ → Trail → Bool
@@ -41,11 +41,7 @@ Bare n r = (y : ℕ) → n ≤ y → coef r.coefs y ≡ pos 0
 -- ---- matching by the sign
 
 pub matches_to : (s : Side) (z : ℤ) → matches s z ≡ true → pos 0 <ℤ toward s z
-matches_to Low (pos zero) h = absurd (grind arith)
-matches_to Low (pos (suc a)) h = omega (arith, ints)
-matches_to Low (negsuc a) h = absurd (grind arith)
-matches_to High (pos a) h = absurd (grind arith)
-matches_to High (negsuc a) h = omega (arith, ints)
+matches_to s z h = by_match (λ s z. pos 0 <ℤ toward s z) (λ a. omega (arith, ints)) (λ a. omega (arith, ints)) s z h
 
 pub matches_from : (s : Side) (z : ℤ) → pos 0 <ℤ toward s z → matches s z ≡ true
 matches_from Low (pos zero) h = absurd (omega (arith, ints))

@@ -1,5 +1,5 @@
 -- A decision that may not be dropped: the conflict has a better bound there, on the other side. Rests on the run's invariant.
-use Rattle.std.proofs.Common.{◌≡◌, zero, suc, Bool, true, false, ◌&&◌, List, ◌∷◌, ℤ, pos, negsuc, neg_ℤ, Some, sym, refl, ap, subst, arith}
+use Rattle.std.proofs.Common.{◌≡◌, suc, Bool, true, false, ◌&&◌, List, ◌∷◌, ℤ, neg_ℤ, Some, sym, refl, ap, subst, arith}
 use borrow.Author.Differences.{ints}
 use lib.Signed.{le_z, lt_z}
 use Rattle.calculus.specs.Advice.{turned_side}
@@ -21,19 +21,18 @@ use Rattle.calculus.proofs.Descending.{under}
 use Rattle.calculus.proofs.Firm.{fit_order}
 use Rattle.calculus.proofs.Keeping.{Repairs, Well}
 use Rattle.calculus.proofs.Nones.{thin_rows}
+use Rattle.calculus.proofs.Resolving.{by_match}
 use Rattle.calculus.proofs.Starting.{run_well}
 
 -- a coefficient that a side matches bounds on the other side
 bound_side : (s : Side) (a rest lo hi : ℤ) (b : Bound) → matches s a ≡ true → bounded a rest lo hi ≡ Some b → b.side ≡ turned_side s
-bound_side Low (pos zero) rest lo hi b m h = absurd (grind arith)
-bound_side Low (pos (suc a)) rest lo hi b m h =
-    ap (λ (z : Bound). z.side) (sym (picked_only (le_z lo (floor (neg_ℤ rest) (suc a)) && lt_z (floor (neg_ℤ rest) (suc a)) hi)
-    (record { side = High; value = floor (neg_ℤ rest) (suc a) }) b h).1)
-bound_side Low (negsuc a) rest lo hi b m h = absurd (grind arith)
-bound_side High (pos a) rest lo hi b m h = absurd (grind arith)
-bound_side High (negsuc a) rest lo hi b m h =
-    ap (λ (z : Bound). z.side) (sym (picked_only (lt_z lo (ceiling rest (suc a)) && le_z (ceiling rest (suc a)) hi)
-    (record { side = Low; value = ceiling rest (suc a) }) b h).1)
+bound_side s a rest lo hi b m h =
+    by_match (λ s a. bounded a rest lo hi ≡ Some b → b.side ≡ turned_side s)
+    (λ a h. ap (λ (z : Bound). z.side) (sym (picked_only (le_z lo (floor (neg_ℤ rest) (suc a)) && lt_z (floor (neg_ℤ rest) (suc a)) hi)
+    (record { side = High; value = floor (neg_ℤ rest) (suc a) }) b h).1))
+    (λ a h. ap (λ (z : Bound). z.side) (sym (picked_only (lt_z lo (ceiling rest (suc a)) && le_z (ceiling rest (suc a)) hi)
+    (record { side = Low; value = ceiling rest (suc a) }) b h).1))
+    s a m h
 
 -- the entry matches, or the conflict would fail without it
 matches_by : (v : Bool) (rs : List Range) (e : Entry) (t : Trail) (j : Row) → matches e.side (coef j.coefs e.unknown) ≡ v →

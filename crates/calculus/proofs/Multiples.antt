@@ -1,5 +1,5 @@
 -- Multiples of a number among the whole numbers, by remainder and by quotient.
-use Rattle.std.proofs.Common.{◌≡◌, ℕ, zero, suc, ◌+◌, ◌%◌, ◌<◌, Bool, true, false, ◌&&◌, eqb, List, [], ◌∷◌, ℤ, pos, negsuc, ◌+ℤ◌, ◌*ℤ◌, nat_abs, sym, refl, ap, ◌∙◌, arith, eq-eqb}
+use Rattle.std.proofs.Common.{◌≡◌, ℕ, suc, ◌+◌, ◌%◌, ◌<◌, Bool, true, false, ◌&&◌, eqb, List, [], ◌∷◌, ℤ, pos, ◌+ℤ◌, ◌*ℤ◌, nat_abs, sym, refl, ap, ◌∙◌, arith, eq-eqb}
 use native.Mathlib.Nat.{mul-mod_right}
 use borrow.Author.Differences.{ints}
 use Rattle.std.proofs.lemmas.Bool.Decides.{nat_tests}
@@ -12,11 +12,10 @@ use Rattle.calculus.specs.Checking.{all_divide}
 use Rattle.calculus.specs.Rows.{coef}
 use Rattle.calculus.specs.Tightening.{matches, lacking, left_open}
 use Rattle.calculus.specs.declared.sides.Side.{Side}
-use Rattle.calculus.specs.declared.sides.Side.TheVariants.{Low, High}
 use Rattle.calculus.proofs.Ints.{distrib, floor_times}
 use Rattle.calculus.proofs.Moves.{lacking_fills}
 use Rattle.calculus.proofs.Reduction.{quotient}
-use Rattle.calculus.proofs.Resolving.{unit}
+use Rattle.calculus.proofs.Resolving.{unit, by_match}
 
 -- z is a multiple of d.
 pub record Multiple (d : ℕ) (z : ℤ) : Type 0 where
@@ -55,11 +54,9 @@ pub filled : (s : Side) (d : ℕ) (c : ℤ) → 0 < d → matches s c ≡ true �
 filled s d c l m = multiple_mod d _ (ap (λ (k : ℕ). k % d) (grows s c (lacking d c) m) ∙ lacking_fills d (nat_abs c) l)
   where
     grows : (s : Side) (c : ℤ) (k : ℕ) → matches s c ≡ true → nat_abs (c +ℤ pos k *ℤ unit (turned_side s)) ≡ nat_abs c + k
-    grows Low (pos zero) k m = absurd (grind arith)
-    grows Low (pos (suc a)) k m = omega (arith, ints)
-    grows Low (negsuc a) k m = absurd (grind arith)
-    grows High (pos a) k m = absurd (grind arith)
-    grows High (negsuc a) k m = omega (arith, ints)
+    grows s c k m =
+        by_match (λ s c. nat_abs (c +ℤ pos k *ℤ unit (turned_side s)) ≡ nat_abs c + k) (λ a. omega (arith, ints))
+        (λ a. omega (arith, ints)) s c m
 
 -- a coefficient is left open whole, or it is a multiple and set aside whole
 pub data Opened (d : ℕ) (c : ℤ) : Type 0 where

@@ -31,27 +31,29 @@ pub record Tight (n : ℕ) (lo hi : ℕ → ℤ) (r : Row) (x : ℕ) (s : Side) 
 
 -- ---- matching coefficients
 
+-- low matches the coefficients above 0, and high those below
+pub by_match : (P : Side → ℤ → Type 0) → ((a : ℕ) → P Low (pos (suc a))) → ((a : ℕ) → P High (negsuc a)) → (s : Side) (c : ℤ) →
+    matches s c ≡ true → P s c
+by_match P low high Low (pos zero) m = absurd cc
+by_match P low high Low (pos (suc a)) m = low a
+by_match P low high Low (negsuc a) m = absurd cc
+by_match P low high High (pos a) m = absurd cc
+by_match P low high High (negsuc a) m = high a
+
 -- the term of a matching coefficient is at its end
 pub match_term : (s : Side) (c lo hi v : ℤ) → matches s c ≡ true → decided_value s lo hi ≡ v → term c lo hi ≡ c *ℤ v
-match_term Low (pos zero) lo hi v m e = absurd (grind arith)
-match_term Low (pos (suc a)) lo hi v m e = ap (λ (z : ℤ). pos (suc a) *ℤ z) e
-match_term Low (negsuc a) lo hi v m e = absurd (grind arith)
-match_term High (pos a) lo hi v m e = absurd (grind arith)
-match_term High (negsuc a) lo hi v m e = ap (λ (z : ℤ). negsuc a *ℤ z) e
+match_term s c lo hi v m e =
+    by_match (λ s c. decided_value s lo hi ≡ v → term c lo hi ≡ c *ℤ v) (λ a e. ap (λ (z : ℤ). pos (suc a) *ℤ z) e)
+    (λ a e. ap (λ (z : ℤ). negsuc a *ℤ z) e) s c m e
 
 pub match_value : (s : Side) (c v : ℤ) → matches s c ≡ true → c *ℤ v ≡ pos (nat_abs c) *ℤ toward s v
-match_value Low (pos zero) v m = absurd (grind arith)
-match_value Low (pos (suc a)) v m = refl
-match_value Low (negsuc a) v m = absurd (grind arith)
-match_value High (pos a) v m = absurd (grind arith)
-match_value High (negsuc a) v m = let e = mul_neg (pos (suc a)) v in omega (arith, ints)
+match_value s c v m =
+    by_match (λ s c. c *ℤ v ≡ pos (nat_abs c) *ℤ toward s v) (λ a. refl)
+    (λ a. let e = mul_neg (pos (suc a)) v in omega (arith, ints)) s c m
 
 pub match_cancel : (s : Side) (c : ℤ) → matches s c ≡ true → c +ℤ pos (nat_abs c) *ℤ unit s ≡ pos 0
-match_cancel Low (pos zero) m = absurd (grind arith)
-match_cancel Low (pos (suc a)) m = omega (arith, ints)
-match_cancel Low (negsuc a) m = absurd (grind arith)
-match_cancel High (pos a) m = absurd (grind arith)
-match_cancel High (negsuc a) m = omega (arith, ints)
+match_cancel s c m =
+    by_match (λ s c. c +ℤ pos (nat_abs c) *ℤ unit s ≡ pos 0) (λ a. omega (arith, ints)) (λ a. omega (arith, ints)) s c m
 
 -- a coefficient that does not match sees only the other side's end
 pub unmatched_term : (s : Side) (c lo hi lo' hi' : ℤ) → matches s c ≡ false →

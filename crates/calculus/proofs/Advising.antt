@@ -11,14 +11,14 @@ use Rattle.calculus.specs.Logs.{Logbook}
 use Rattle.calculus.specs.Machines.{Context, act}
 use Rattle.calculus.specs.RunLaws.{after, AdviceAfter, ChoiceOpen, ChoiceFirst, ThreeAdvise, ThreeAdvised, SteadyStays, TurnedTwice}
 use Rattle.calculus.specs.Rows.{Row, coef}
-use Rattle.calculus.specs.Runs.{start_by, start, enough_steps, whole_run, left_by, rows_of}
+use Rattle.calculus.specs.Runs.{start_by, whole_run, left_by, rows_of}
 use Rattle.calculus.specs.Tables.{table}
 use Rattle.calculus.specs.declared.ranges.Range.{Range}
 use Rattle.calculus.specs.declared.refusals.Refusal.{Refusal}
 use Rattle.calculus.specs.declared.sides.Side.{Side}
 use Rattle.calculus.specs.declared.sides.Side.TheVariants.{Low, High}
 use Rattle.calculus.proofs.Reduction.{same_number_decides}
-use Rattle.calculus.proofs.Running.{run_keeps, act_step}
+use Rattle.calculus.proofs.Running.{whole_keeps, act_step}
 use Rattle.calculus.proofs.Stepping.{Hears}
 use Rattle.calculus.proofs.Tabling.{table_long}
 
@@ -224,8 +224,7 @@ start_by_advice false c a = refl
 
 pub whole_like : (c : Context) (budget : ℕ) (a : Advice) → Advises a → Like a (whole_run c budget a).at.advice
 whole_like c budget a h =
-    run_keeps (λ m. Like a m.advice) c (λ m l. hears_like a m.advice (after (act c m)).advice (act_step c m).advice l) budget
-    (enough_steps budget) (record { at = start c a; made = 0 })
+    whole_keeps (λ m. Like a m.advice) c (λ m l. hears_like a m.advice (after (act c m)).advice (act_step c m).advice l) budget a
     (subst (λ (z : Advice). Like a z) (sym (start_by_advice _ c a)) (record { advises = h; same = refl; rule = refl }))
 
 after_by : (r : Result (Unit {0}) Refusal) (rs : List Range) (rows : List Row) (a : Advice) (log : Logbook) (plan : List ℤ) (budget : ℕ) →

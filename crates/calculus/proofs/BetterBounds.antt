@@ -22,6 +22,10 @@ here_same x a b = ap (λ (t : Bool). here_or t a b) (eq-eqb x x refl)
 pub here_other : {Y : Type 0} (x y : ℕ) (a b : Y) → (x ≡ y → ⊥) → here_or (eqb y x) a b ≡ b
 here_other x y a b n = ap (λ (t : Bool). here_or t a b) (ne_eqb y x (λ e. n (sym e)))
 
+-- what holds at x and at each other place holds everywhere
+pub at_each : (P : ℕ → Type 0) (x : ℕ) → P x → ((i : ℕ) → (x ≡ i → ⊥) → P i) → (i : ℕ) → P i
+at_each P x here else i = ⊎_elim (λ (e : x ≡ i). subst P e here) (λ (d : x ≡ i → ⊥). else i d) (cases_eq x i)
+
 pub sum_same : (n : ℕ) (f g : ℕ → ℤ) → ((i : ℕ) → i < n → f i ≡ g i) → sum n f ≡ sum n g
 sum_same zero f g h = refl
 sum_same (suc n) f g h =

@@ -1,5 +1,5 @@
 -- Covered rows: each of their terms has an entry on the trail that matches it. What keeps a row covered as entries are read or taken off.
-use Rattle.std.proofs.Common.{◌≡◌, ℕ, zero, suc, ◌<◌, ◌≤◌, Bool, true, false, ◌||◌, ◌⊎◌, List, [], ◌∷◌, length, ℤ, pos, negsuc, ◌+ℤ◌, ◌*ℤ◌, ◌≤ℤ◌, ◌<ℤ◌, sym, refl, ap, ◌∙◌, subst, inl, inr, ⊎_elim, arith, ne_eqb}
+use Rattle.std.proofs.Common.{◌≡◌, ℕ, zero, suc, ◌<◌, ◌≤◌, Bool, true, false, ◌||◌, ◌⊎◌, List, [], ◌∷◌, length, ℤ, pos, negsuc, ◌+ℤ◌, ◌*ℤ◌, ◌≤ℤ◌, ◌<ℤ◌, sym, refl, ap, ◌∙◌, inl, inr, ⊎_elim, arith, ne_eqb}
 use borrow.Author.Differences.{ints}
 use Rattle.std.proofs.lemmas.Int.{by_lt_z}
 use Rattle.std.proofs.lemmas.Bool.{cases_eq, cases_lt, and_right, or_right}
@@ -11,7 +11,7 @@ use Rattle.calculus.specs.declared.ranges.Range.{Range}
 use Rattle.calculus.specs.declared.sides.Side.{Side}
 use Rattle.calculus.specs.declared.sides.Side.TheVariants.{Low, High}
 use Rattle.calculus.specs.declared.trails.Entry.{Entry}
-use Rattle.calculus.proofs.BetterBounds.{coef_without}
+use Rattle.calculus.proofs.BetterBounds.{at_each, coef_without}
 use Rattle.calculus.proofs.Firm.{on_is}
 use Rattle.calculus.proofs.Ints.{mul_neg, times_le}
 use Rattle.calculus.proofs.Leasts.{coef_plus, floor_zero, coef_cut, coef_else}
@@ -162,8 +162,8 @@ bare_plus n p m q a b y l = let e = coef_plus p m q y in let c = a y l in let d 
 
 pub bare_without : (n x : ℕ) (r : Row) → Bare n r → Bare n (without x r)
 bare_without n x r h y l =
-    ⊎_elim (λ (d : x ≡ y). subst (λ (z : ℕ). coef (without x r).coefs z ≡ pos 0) d (coef_without r.coefs x))
-    (λ (d : x ≡ y → ⊥). coef_else r.coefs x y d ∙ h y l) (cases_eq x y)
+    at_each (λ z. n ≤ z → coef (without x r).coefs z ≡ pos 0) x (λ k. coef_without r.coefs x)
+    (λ i d k. coef_else r.coefs x i d ∙ h i k) y l
 
 pub bare_cut : (n k : ℕ) (r : Row) → 0 < k → Bare n r → Bare n (cut k r)
 bare_cut n k r p h y l = coef_cut k r y p ∙ ap (λ (z : ℤ). floor z k) (h y l) ∙ floor_zero k p

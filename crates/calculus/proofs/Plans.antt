@@ -12,7 +12,7 @@ use Rattle.calculus.specs.Machines.{Context, Phase, looking, repairing, ended, M
 use Rattle.calculus.specs.Promises.{PlanRight}
 use Rattle.calculus.specs.Rows.{Row, Standing, coef, value, Meets, MeetsAll, Within}
 use Rattle.calculus.specs.RunLaws.{is_over, after}
-use Rattle.calculus.specs.Runs.{start_by, start, enough_steps, whole_run, ending_of, plan_after, left_by, rows_of, begin_answer}
+use Rattle.calculus.specs.Runs.{start_by, enough_steps, whole_run, ending_of, plan_after, left_by, rows_of, begin_answer}
 use Rattle.calculus.specs.declared.endings.Ending.{Ending}
 use Rattle.calculus.specs.declared.endings.Ending.TheVariants.{Plan}
 use Rattle.calculus.specs.declared.ranges.Range.{Range}
@@ -24,7 +24,7 @@ use Rattle.calculus.proofs.Firm.{InOrder, Firm, fit_order, firm_within, lows_at,
 use Rattle.calculus.proofs.Tabling.{table_long}
 use Rattle.calculus.proofs.Firsts.{first_conflict}
 use Rattle.calculus.proofs.Meeting.{within_each, meets_each}
-use Rattle.calculus.proofs.Running.{run_keeps, begins_fit, act_step}
+use Rattle.calculus.proofs.Running.{whole_keeps, begins_fit, act_step}
 use Rattle.calculus.proofs.Stepping.{Hears, Fine, act_ok}
 use Rattle.calculus.proofs.Unmoved.{Calm, Rest, act_rest}
 
@@ -127,8 +127,7 @@ start_planning false c a s = record { serves = s; right = λ h. absurd cc }
 whole_right : (c : Context) (budget : ℕ) (a : Advice) → Serves (length c.ranges) a → (whole_run c budget a).at.phase ≡ ended Plan →
     Right c (whole_run c budget a).at.trail
 whole_right c budget a s =
-    (run_keeps (Planning c) c (act_planning c) budget (enough_steps budget) (record { at = start c a; made = 0 })
-    (start_planning _ c a s)).right
+    (whole_keeps (Planning c) c (act_planning c) budget a (start_planning _ c a s)).right
 
 -- ---- the promise
 

@@ -1,7 +1,6 @@
 -- Tight rows, and what adding one does: it takes an unknown out of a row and the least value does not fall. Rests on Leasts.
-use Rattle.std.proofs.Common.{◌≡◌, ℕ, zero, suc, ◌<◌, true, false, ℤ, pos, negsuc, ◌+ℤ◌, ◌*ℤ◌, neg_ℤ, nat_abs, ◌≤ℤ◌, refl, ap, ◌∙◌, subst, ⊎_elim, arith}
+use Rattle.std.proofs.Common.{◌≡◌, ℕ, zero, suc, ◌<◌, true, false, ℤ, pos, negsuc, ◌+ℤ◌, ◌*ℤ◌, neg_ℤ, nat_abs, ◌≤ℤ◌, refl, ap, ◌∙◌, arith}
 use borrow.Author.Differences.{ints}
-use Rattle.std.proofs.lemmas.Bool.{cases_eq}
 use Rattle.calculus.specs.Advice.{turned_side}
 use Rattle.calculus.specs.Arithmetic.{sum}
 use Rattle.calculus.specs.Bounds.{term, least, without}
@@ -10,7 +9,7 @@ use Rattle.calculus.specs.Rows.{Row, coef}
 use Rattle.calculus.specs.Tightening.{plus, matches}
 use Rattle.calculus.specs.declared.sides.Side.{Side}
 use Rattle.calculus.specs.declared.sides.Side.TheVariants.{Low, High}
-use Rattle.calculus.proofs.BetterBounds.{term_zero, sum_same, least_split}
+use Rattle.calculus.proofs.BetterBounds.{at_each, term_zero, sum_same, least_split}
 use Rattle.calculus.proofs.Ints.{distrib, mul_neg, times_le}
 use Rattle.calculus.proofs.Leasts.{sum_plus, sum_but, coef_plus, term_super, mixed}
 
@@ -129,11 +128,9 @@ pub unmatched_least : (n : ℕ) (lo hi lo' hi' : ℕ → ℤ) (x : ℕ) (s : Sid
     least n lo' hi' j ≡ least n lo hi j
 unmatched_least n lo hi lo' hi' x s j los his m e =
     let same = sum_same n (λ i. term (coef j.coefs i) (lo' i) (hi' i)) (λ i. term (coef j.coefs i) (lo i) (hi i))
-    (λ i b. ⊎_elim
-    (λ (h : x ≡ i). subst (λ (y : ℕ). term (coef j.coefs y) (lo' y) (hi' y) ≡ term (coef j.coefs y) (lo y) (hi y)) h
-    (unmatched_term s (coef j.coefs x) (lo' x) (hi' x) (lo x) (hi x) m e))
-    (λ (d : x ≡ i → ⊥). λ y. term (coef j.coefs i) (los i d y) (his i d y))
-    (cases_eq x i)) in
+    (λ i b. at_each (λ (y : ℕ). term (coef j.coefs y) (lo' y) (hi' y) ≡ term (coef j.coefs y) (lo y) (hi y)) x
+    (unmatched_term s (coef j.coefs x) (lo' x) (hi' x) (lo x) (hi x) m e)
+    (λ i d y. term (coef j.coefs i) (los i d y) (his i d y)) i) in
     ap (λ (z : ℤ). z +ℤ j.constant) same
 
 unit_toward : (s : Side) (v : ℤ) → unit s *ℤ v ≡ neg_ℤ (toward s v)

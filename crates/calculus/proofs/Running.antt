@@ -273,6 +273,11 @@ run_keeps P c keeps budget zero g p = p
 run_keeps P c keeps budget (suc k) g p =
     run_keeps P c keeps budget k _ (at_advanced P budget (act c g.at) g p (keeps g.at p))
 
+-- what a start has and every step keeps, a whole run leaves
+pub whole_keeps : (P : Machine → Type 0) (c : Context) → ((m : Machine) → P m → P (after (act c m))) → (budget : ℕ) (a : Advice) →
+    P (start c a) → P (whole_run c budget a).at
+whole_keeps P c keeps budget a h = run_keeps P c keeps budget (enough_steps budget) (begins c a) h
+
 step_of : (c : Context) (m : Machine) (a : Acted) → Fine c m a → Step c m (after a)
 step_of c m (free n) f = f.0
 step_of c m (halted n) f = f.0
@@ -293,7 +298,7 @@ start_by_lasts false c a = inr (inr (inr (inr (inl refl))))
 
 whole_lasts : (c : Context) (budget : ℕ) (a : Advice) → Lasts (whole_run c budget a).at.phase
 whole_lasts c budget a =
-    run_keeps (λ m. Lasts m.phase) c (λ m h. (act_step c m).ends h) budget (enough_steps budget) (begins c a) (start_by_lasts _ c a)
+    whole_keeps (λ m. Lasts m.phase) c (λ m h. (act_step c m).ends h) budget a (start_by_lasts _ c a)
 
 answers : (p : Phase) → Lasts p → OneOf (Plan ∷ NoPlan ∷ Refused Spent ∷ Refused Long ∷ Refused Wide ∷ Refused Log ∷ []) (ending_of p)
 answers looking h = inr (inr (inl refl))
@@ -390,8 +395,7 @@ spent_is_budget rs rows a log plan budget l e =
 -- the base lines stay first
 pub whole_grown : (c : Context) (budget : ℕ) (a : Advice) → Grown (start c a).lines (whole_run c budget a).at.lines
 whole_grown c budget a =
-    run_keeps (λ m. Grown (start c a).lines m.lines) c (λ m h. grown_on h (act_step c m).lines.grown) budget (enough_steps budget)
-    (begins c a)
+    whole_keeps (λ m. Grown (start c a).lines m.lines) c (λ m h. grown_on h (act_step c m).lines.grown) budget a
     (grown_same (start c a).lines)
 
 -- no more lines than there is room for
@@ -404,8 +408,7 @@ start_by_room false c a e =
 
 pub whole_room : (c : Context) (budget : ℕ) (a : Advice) → length (whole_run c budget a).at.lines ≤ c.capacity
 whole_room c budget a =
-    run_keeps (λ m. length m.lines ≤ c.capacity) c (λ m h. (act_step c m).lines.room h) budget (enough_steps budget) (begins c a)
-    (start_by_room _ c a refl)
+    whole_keeps (λ m. length m.lines ≤ c.capacity) c (λ m h. (act_step c m).lines.room h) budget a (start_by_room _ c a refl)
 
 abbrev Starts : Context → Machine → Type 0
 Starts c m =

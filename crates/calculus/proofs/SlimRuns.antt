@@ -24,8 +24,8 @@ use Rattle.calculus.specs.Machines.{closed, close, repair, act_in, act}
 use Rattle.calculus.specs.Promises.{FitRanges, FitRows}
 use Rattle.calculus.specs.RunLaws.{after}
 use Rattle.calculus.specs.Rows.{Row, Standing, coef, cut}
-use Rattle.calculus.specs.Runs.{lone, low_row, high_row, line_of, range_lines, row_lines, base_lines, start_by, start, rows_of}
-use Rattle.calculus.specs.Runs.{enough_steps, whole_run}
+use Rattle.calculus.specs.Runs.{lone, low_row, high_row, line_of, range_lines, row_lines, base_lines, start_by, rows_of}
+use Rattle.calculus.specs.Runs.{whole_run}
 use Rattle.calculus.specs.Tightening.{added_coefs, plus, light, fits, lacking, matches, reason_of, left_open, open_part}
 use Rattle.calculus.specs.Tightening.{Narrowing, going, stopped, outcome, summed_by, summed, aside, matched, narrowed_by, narrowed}
 use Rattle.calculus.specs.Tightening.{finished_by, finished, tightened}
@@ -38,7 +38,7 @@ use Rattle.calculus.specs.declared.trails.Entry.{Entry}
 use Rattle.calculus.proofs.Divisors.{common_divides, row_divisor_plain}
 use Rattle.calculus.proofs.Firsts.{first_conflict, first_pair}
 use Rattle.calculus.proofs.Good.{Slim}
-use Rattle.calculus.proofs.Running.{run_keeps}
+use Rattle.calculus.proofs.Running.{whole_keeps}
 
 -- ---- small rows
 
@@ -449,7 +449,7 @@ pub whole_slim : (c : Context) (budget : ℕ) (a : Advice) → GoodRanges c.rang
     AllByRecursion (Slim (length c.ranges)) (whole_run c budget a).at.lines
 whole_slim c budget a h s =
     let n = length c.ranges in
-    (run_keeps (Keeps n) c (λ m k. act_slim n c m s k) budget (enough_steps budget) (record { at = start c a; made = 0 })
+    (whole_keeps (Keeps n) c (λ m k. act_slim n c m s k) budget a
     (start_by_slim (leb (length (base_lines c.ranges c.rows)) c.capacity) c a h s)).0
 
 heavy_lean : (cs : List ℤ) → heavy cs ≡ false → AllByRecursion Lean cs

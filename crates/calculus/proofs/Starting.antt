@@ -1,9 +1,9 @@
 -- The start of a run meets its invariant: the base lines are sound, and the range entries are held by them.
 -- Then so does every machine of a run. Rests on GoodLogs, Reasons and Keeping.
-use Rattle.std.proofs.Common.{◌≡◌, ℕ, zero, suc, ◌+◌, ◌<◌, ◌≤◌, Bool, true, false, List, [], ◌∷◌, ◌++◌, length, replicate, ℤ, pos, negsuc, neg_ℤ, sym, refl, ap, ◌∙◌, subst, ⊎_elim, arith}
+use Rattle.std.proofs.Common.{◌≡◌, ℕ, zero, suc, ◌+◌, ◌<◌, ◌≤◌, Bool, true, false, List, [], ◌∷◌, ◌++◌, length, replicate, ℤ, pos, negsuc, neg_ℤ, sym, refl, ap, ◌∙◌, subst, arith}
 use borrow.Author.Differences.{ints}
 use Rattle.std.proofs.lemmas.List.{append-nil, append_assoc, length-append, length-set, length-replicate, get_or_past, get_or_at, get_or-append-add}
-use Rattle.std.proofs.lemmas.Bool.{cases_eq, or_left, lt-ltb}
+use Rattle.std.proofs.lemmas.Bool.{or_left, lt-ltb}
 use Rattle.calculus.specs.Advice.{Advice}
 use Rattle.calculus.specs.Bounds.{Trail, low, high, least, without, range_at, row_at}
 use Rattle.calculus.specs.Logs.{Line, no_line, line_at, line_row}
@@ -17,7 +17,7 @@ use Rattle.calculus.specs.declared.kinds.Kind.TheVariants.{Low as LowLine, High 
 use Rattle.calculus.specs.declared.ranges.Range.{Range}
 use Rattle.calculus.specs.declared.sides.Side.{Side}
 use Rattle.calculus.specs.declared.sides.Side.TheVariants.{Low, High}
-use Rattle.calculus.proofs.BetterBounds.{coef_without}
+use Rattle.calculus.proofs.BetterBounds.{at_each, coef_without}
 use Rattle.calculus.proofs.Covering.{has, CoveredBut, Bare, has_more, matches_zero}
 use Rattle.calculus.proofs.Firm.{InOrder, on_own, low_entry, high_entry, start_firm}
 use Rattle.calculus.proofs.Tabling.{table_long, table_at}
@@ -43,10 +43,8 @@ lone_bare n x a k y l =
 lone_rest : (n x : ℕ) (a k : ℤ) (lo hi : ℕ → ℤ) → least n lo hi (without x (lone n x a k)) ≡ k
 lone_rest n x a k lo hi =
     plain_least n lo hi (without x (lone n x a k))
-    (λ i. ⊎_elim
-    (λ (e : x ≡ i). subst (λ (y : ℕ). coef (without x (lone n x a k)).coefs y ≡ pos 0) e (coef_without (lone n x a k).coefs x))
-    (λ (d : x ≡ i → ⊥). coef_else (lone n x a k).coefs x i d ∙ lone_else n x i a k d)
-    (cases_eq x i))
+    (at_each (λ (y : ℕ). coef (without x (lone n x a k)).coefs y ≡ pos 0) x (coef_without (lone n x a k).coefs x)
+    (λ i d. coef_else (lone n x a k).coefs x i d ∙ lone_else n x i a k d))
 
 -- such a row, held as line q, is a reason over any trail
 lone_reason : (rs : List Range) (ls : List Line) (t : Trail) (q x : ℕ) (s : Side) (v k : ℤ) → q < length ls → x < length rs →
@@ -161,10 +159,10 @@ range_held rs (suc k) l =
 range_has : (rs : List Range) (k : ℕ) (s : Side) (y : ℕ) → y < k → has s y (range_entries rs k) ≡ true
 range_has rs zero s y l = absurd (omega arith)
 range_has rs (suc k) s y l =
-    ⊎_elim (λ (e : y ≡ k). subst (λ (z : ℕ). has s z (range_entries rs (suc k)) ≡ true) (sym e) (newest_has s))
-    (λ (d : y ≡ k → ⊥). has_more s y (high_entry rs k) (low_entry rs k ∷ range_entries rs k)
-    (has_more s y (low_entry rs k) (range_entries rs k) (range_has rs k s y (omega arith))))
-    (cases_eq y k)
+    at_each (λ (z : ℕ). z < suc k → has s z (range_entries rs (suc k)) ≡ true) k (λ b. newest_has s)
+    (λ i d b. has_more s i (high_entry rs k) (low_entry rs k ∷ range_entries rs k)
+    (has_more s i (low_entry rs k) (range_entries rs k) (range_has rs k s i (omega arith))))
+    y l
   where
     newest_has : (s : Side) → has s k (range_entries rs (suc k)) ≡ true
     newest_has Low = or_left _ _ (on_own (low_entry rs k))

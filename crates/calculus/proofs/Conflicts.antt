@@ -25,14 +25,14 @@ use Rattle.calculus.specs.declared.trails.Bound.{Bound}
 use Rattle.calculus.specs.declared.trails.Entry.{Entry}
 use Rattle.calculus.proofs.BetterBounds.{coef_without, least_split}
 use Rattle.calculus.proofs.Covering.{Covered, Complete, Bare, covered_past, covered_sum, complete_covers, covered_cut, bare_plus, bare_cut}
-use Rattle.calculus.proofs.Descending.{under, away}
+use Rattle.calculus.proofs.Descending.{under, away, under_past}
 use Rattle.calculus.proofs.Divisors.{common_divides}
-use Rattle.calculus.proofs.Firm.{Sits, end_own, end_across}
+use Rattle.calculus.proofs.Firm.{Sits, end_own}
 use Rattle.calculus.proofs.Ints.{times_le, times_next, floor_rounds, ceiling_rounds}
 use Rattle.calculus.proofs.Leasts.{coef_plus, cut_fails}
 use Rattle.calculus.proofs.Multiples.{Multiple, multiple_mod, multiple_zero, multiple_floor}
 use Rattle.calculus.proofs.Reasons.{Reason}
-use Rattle.calculus.proofs.Resolving.{by_match, match_term, match_cancel, resolve_least, unmatched_least}
+use Rattle.calculus.proofs.Resolving.{by_match, match_term, match_cancel, resolve_least}
 
 -- A conflict over a trail: the row fails, and each of its terms has a matching entry.
 pub record Conflict (rs : List Range) (t : Trail) (j : Row) : Type 0 where
@@ -44,9 +44,7 @@ module _ (rs : List Range) (e : Entry) (t : Trail) (j : Row) (conflict : Conflic
   -- an entry that does not match is taken off
   pub conflict_past : matches e.side (coef j.coefs e.unknown) ≡ false → Conflict rs t j
   conflict_past m =
-      let same : under rs (e ∷ t) j ≡ under rs t j =
-      unmatched_least (length rs) (low rs t) (high rs t) (low rs (e ∷ t)) (high rs (e ∷ t)) e.unknown e.side j
-      (away rs t e Low) (away rs t e High) m (end_across rs t e e.unknown) in
+      let same = under_past rs t e j m in
       let f = conflict.fails in
       record { fails = omega (arith, ints); covered = covered_past e t j conflict.covered m; bare = conflict.bare }
 
@@ -148,10 +146,8 @@ match_worst s c lo hi m =
 rest_away : (rs : List Range) (e : Entry) (t : Trail) (j : Row) →
     under rs (e ∷ t) (without e.unknown j) ≡ under rs t (without e.unknown j)
 rest_away rs e t j =
-    unmatched_least (length rs) (low rs t) (high rs t) (low rs (e ∷ t)) (high rs (e ∷ t)) e.unknown e.side (without e.unknown j)
-    (away rs t e Low) (away rs t e High) (plain e.side (coef (without e.unknown j).coefs e.unknown)
+    under_past rs t e (without e.unknown j) (plain e.side (coef (without e.unknown j).coefs e.unknown)
     (coef_without j.coefs e.unknown))
-    (end_across rs t e e.unknown)
   where
     plain : (s : Side) (z : ℤ) → z ≡ pos 0 → matches s z ≡ false
     plain Low z e = ap (matches Low) e

@@ -79,14 +79,19 @@ bound_arith all old part more g f av nv pv rest rest' b s fi gi at r m = omega (
 pub away : (rs : List Range) (t : Trail) (e : Entry) (s : Side) → SameBut e.unknown (end_at rs (e ∷ t) s) (end_at rs t s)
 away rs t e s i d = end_other rs t e s i (λ h. d (sym h))
 
+-- an entry that does not match leaves the least value as it is
+pub under_past : (rs : List Range) (t : Trail) (e : Entry) (r : Row) → matches e.side (coef r.coefs e.unknown) ≡ false →
+    under rs (e ∷ t) r ≡ under rs t r
+under_past rs t e r m =
+    unmatched_least (length rs) (low rs t) (high rs t) (low rs (e ∷ t)) (high rs (e ∷ t)) e.unknown e.side r (away rs t e Low)
+    (away rs t e High) m (end_across rs t e e.unknown)
+
 module _ (rs : List Range) (whole : Trail) (x d : ℕ) (r : Row) (e : Entry) (t : Trail) (row part : Row)
     (kept : Kept rs whole x d r (e ∷ t) row part) where
   -- an entry that does not match is passed by
   pub kept_past : matches e.side (coef part.coefs e.unknown) ≡ false → Kept rs whole x d r t row part
   kept_past m =
-      let same : under rs (e ∷ t) part ≡ under rs t part =
-      unmatched_least (length rs) (low rs t) (high rs t) (low rs (e ∷ t)) (high rs (e ∷ t)) e.unknown e.side part
-      (away rs t e Low) (away rs t e High) m (end_across rs t e e.unknown) in
+      let same = under_past rs t e part m in
       let b = kept.bound in
       record {
         aside = kept.aside;

@@ -1,5 +1,5 @@
 -- Arithmetic of rows: coefficients of sums and cuts, and what least values do under them. Rests on whole numbers alone.
-use Rattle.std.proofs.Common.{◌≡◌, ℕ, zero, suc, ◌<◌, ◌⊎◌, List, [], ◌∷◌, map, set, replicate, ℤ, pos, negsuc, ◌+ℤ◌, ◌*ℤ◌, neg_ℤ, ◌≤ℤ◌, ◌<ℤ◌, sym, refl, ap, ◌∙◌, subst, inl, inr, ⊎_elim, arith, get_or-set_other}
+use Rattle.std.proofs.Common.{◌≡◌, ℕ, zero, suc, ◌<◌, ◌⊎◌, List, [], ◌∷◌, map, set, replicate, ℤ, pos, negsuc, ◌+ℤ◌, ◌*ℤ◌, ◌≤ℤ◌, ◌<ℤ◌, sym, refl, ap, ◌∙◌, subst, inl, inr, ⊎_elim, arith, get_or-set_other}
 use borrow.Author.Differences.{ints}
 use lib.IntN.{*ℤ-zero}
 use Rattle.std.proofs.lemmas.List.{length-replicate, get_or-set_same}
@@ -86,12 +86,7 @@ lone_else n x i a k d = get_or-set_other (replicate n (pos 0)) x i a (pos 0) (λ
 neg_times_le : (a : ℕ) (u v : ℤ) → u ≤ℤ v → (negsuc a *ℤ v) ≤ℤ (negsuc a *ℤ u)
 neg_times_le a u v h =
     let t = times_le (suc a) u v h in
-    let m = turned a u in
-    let n = turned a v in
     omega (arith, ints)
-  where
-    turned : (a : ℕ) (u : ℤ) → negsuc a *ℤ u ≡ neg_ℤ (pos (suc a) *ℤ u)
-    turned a u = omega (arith, ints)
 
 -- the least value of a term is not above its value anywhere between the ends
 pub term_below : (a lo hi v : ℤ) → lo ≤ℤ v → v ≤ℤ hi → term a lo hi ≤ℤ (a *ℤ v)

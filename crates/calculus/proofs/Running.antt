@@ -165,13 +165,9 @@ free_on c m n true o e f =
 abbrev Settled : Context → Machine → Type 0
 Settled c m = (is_over m.phase || is_due (act c m)) ≡ true
 
-few_on : {a b k : ℕ} → a ≤ suc k → (b < a) ⊎ (b ≡ 0) → b ≤ k
-few_on h (inl l) = omega arith
-few_on h (inr e) = omega arith
-
 coast_by_ok : (a : Acted) (c : Context) (k : ℕ) (m : Machine) → act c m ≡ a → Fine c m a → togo_of m ≤ suc k →
     ((n : Machine) → togo_of n ≤ k → Settled c (coast c k n)) → Settled c (coast_by a m (coast c k))
-coast_by_ok (free n) c k m e f h later = later n (few_on h (free_on c m n (is_over m.phase) refl e f))
+coast_by_ok (free n) c k m e f h later = later n (let s = free_on c m n (is_over m.phase) refl e f in grind arith)
 coast_by_ok (halted n) c k m e f h later = or_right (is_over m.phase) _ (ap is_due e)
 coast_by_ok (moved n) c k m e f h later = or_right (is_over m.phase) _ (ap is_due e)
 

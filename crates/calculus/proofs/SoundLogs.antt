@@ -2,7 +2,7 @@
 -- a row that contradicts. So a log that a check accepts excludes every plan. Rests on Good, on Leasts and on Reduction.
 use Rattle.std.proofs.Common.{◌≡◌, ℕ, zero, suc, ◌-◌, ◌%◌, ◌<◌, Bool, true, false, not, ◌&&◌, eqb, ltb, List, [], ◌∷◌, ◌++◌, map, length, take, ℤ, pos, negsuc, ◌+ℤ◌, ◌*ℤ◌, neg_ℤ, nat_abs, ◌≤ℤ◌, Some, None, Ok, Err, Option, Result, sym, refl, ap, ◌∙◌, subst, arith}
 use borrow.Author.Differences.{ints}
-use lib.IntN.{zero-*ℤ}
+use lib.IntN.{zero-*ℤ, *ℤ-zero}
 use lib.Signed.{lt_z}
 use Rattle.std.proofs.ByRecursion.{All-get_or, All-map}
 use Rattle.std.proofs.lemmas.List.{append-nil, append_assoc, length-take-le, get_or-take}
@@ -38,10 +38,8 @@ use Rattle.calculus.proofs.Reduction.{floor_exact, same_number_decides, same_row
 pub coef_combined : (k : ℕ) (p : Row) (m : ℕ) (q : Row) (i : ℕ) →
     coef (combined k p m q).coefs i ≡ pos k *ℤ coef p.coefs i +ℤ pos m *ℤ coef q.coefs i
 coef_combined k p m q i =
-    let z : pos k *ℤ pos 0 ≡ pos 0 = omega (arith, ints) in
-    let y : pos m *ℤ pos 0 ≡ pos 0 = omega (arith, ints) in
-    let e = coef_map (λ c. pos k *ℤ c) z p.coefs i in
-    let d = coef_map (λ c. pos m *ℤ c) y q.coefs i in
+    let e = coef_map (λ c. pos k *ℤ c) (*ℤ-zero (pos k)) p.coefs i in
+    let d = coef_map (λ c. pos m *ℤ c) (*ℤ-zero (pos m)) q.coefs i in
     let a = coef_added (map (λ c. pos k *ℤ c) p.coefs) (map (λ c. pos m *ℤ c) q.coefs) i in
     a ∙ ap (λ (u : ℤ). u +ℤ coef (map (λ c. pos m *ℤ c) q.coefs) i) e ∙ ap (λ (u : ℤ). pos k *ℤ coef p.coefs i +ℤ u) d
 
@@ -69,12 +67,9 @@ meets_combined xs k p m q h l =
     let a = times_le k (value xs p) (pos 0) h in
     let b = times_le m (value xs q) (pos 0) l in
     let e : value xs (combined k p m q) ≡ pos k *ℤ value xs p +ℤ pos m *ℤ value xs q = value_combined xs k p m q in
-    let z : pos k *ℤ pos 0 ≡ pos 0 = omega (arith, ints) in
-    let y : pos m *ℤ pos 0 ≡ pos 0 = omega (arith, ints) in
-    below (value xs (combined k p m q)) (pos k *ℤ value xs p) (pos m *ℤ value xs q) (pos k *ℤ pos 0) (pos m *ℤ pos 0) e a b z y
-  where
-    below : (v a b c d : ℤ) → v ≡ a +ℤ b → a ≤ℤ c → b ≤ℤ d → c ≡ pos 0 → d ≡ pos 0 → v ≤ℤ pos 0
-    below v a b c d e f g p q = omega (arith, ints)
+    let z = *ℤ-zero (pos k) in
+    let y = *ℤ-zero (pos m) in
+    omega (arith, ints)
 
 -- ---- cuts
 

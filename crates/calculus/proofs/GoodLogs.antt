@@ -1,5 +1,5 @@
 -- Lines that a run writes: each is made from those before it. Rests on Good and Reasons.
-use Rattle.std.proofs.Common.{◌≡◌, ℕ, ◌<◌, ◌≤◌, min, Bool, true, false, ◌&&◌, leb, List, [], ◌∷◌, ◌++◌, length, take, Ok, Err, sym, refl, ap, ◌∙◌, subst, ⊎_elim, arith}
+use Rattle.std.proofs.Common.{◌≡◌, ℕ, suc, ◌+◌, ◌<◌, ◌≤◌, min, Bool, true, false, ◌&&◌, leb, List, [], ◌∷◌, ◌++◌, length, take, Ok, Err, sym, refl, ap, ◌∙◌, subst, ⊎_elim, arith}
 use Rattle.std.proofs.lemmas.List.{length-take, get_or-take, length-append, get_or_append_left, get_or_past, get_or_at, take_at, take-append-le, take-take}
 use Rattle.std.proofs.lemmas.Bool.{cases_eq, cases_lt, lt-ltb}
 use Rattle.calculus.specs.Checking.{all_divide}
@@ -74,15 +74,6 @@ sound_take rs rows ls k s = record { good = good; bare = bare }
         (λ y less. refl))
         (cases_lt q k)
 
-pub grown_one : (ls : List Line) (l : Line) → Grown ls (ls ++ l ∷ [])
-grown_one ls l = record { rest = l ∷ []; is = refl }
-
-pub last_row : (ls : List Line) (l : Line) → line_row (ls ++ l ∷ []) (length ls) ≡ l.row
-last_row ls l = ap (λ (k : Line). k.row) (get_or_at ls l [] no_line (length ls) refl)
-
-pub last_held : (ls : List Line) (l : Line) → length ls < length (ls ++ l ∷ [])
-last_held ls l = let long = length-append ls (l ∷ []) in omega arith
-
 -- ---- what writing comes to
 
 -- a line that is held is the last one; where it is refused the lines stay
@@ -97,6 +88,28 @@ wrote_by false k r ls = (refl, refl)
 
 pub wrote : (capacity : ℕ) (k : Kind) (r : Row) (ls : List Line) → Wrote k r ls (written capacity k r ls)
 wrote capacity k r ls = wrote_by (leb capacity (length ls)) k r ls
+
+-- A line that a log takes: the lines stay sound and grow, and it is held as the last of them.
+pub record Entered (rs : List Range) (rows : List Row) (r : Row) (ls : List Line) (q : ℕ) (ms : List Line) : Type 0 where
+  pub sound : Sound rs rows ms
+  pub grown : Grown ls ms
+  pub held : q < length ms
+  pub is : line_row ms q ≡ r
+  pub last : suc q ≡ length ms
+
+pub entered : (rs : List Range) (rows : List Row) (k : Kind) (r : Row) (ls : List Line) (q : ℕ) (ms : List Line) → Sound rs rows ls →
+    Made rs rows ls (record { fields = fields_of k; row = r }) → Bare (length rs) r → Wrote k r ls (Ok q, ms) → Entered rs rows r ls q ms
+entered rs rows k r ls q ms s made bare w =
+    let l : Line = record { fields = fields_of k; row = r } in
+    let at : q ≡ length ls = w.0 in
+    let long : length ms ≡ length ls + 1 = ap length w.1 ∙ length-append ls (l ∷ []) in
+    record {
+      sound = subst (Sound rs rows) (sym w.1) (sound_more rs rows ls l s made bare);
+      grown = record { rest = l ∷ []; is = w.1 };
+      held = omega arith;
+      is = (λ i. line_row (w.1 i) (w.0 i)) ∙ ap (λ (z : Line). z.row) (get_or_at ls l [] no_line (length ls) refl);
+      last = omega arith;
+    }
 
 -- ---- sums and cuts are made
 

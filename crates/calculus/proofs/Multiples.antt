@@ -1,8 +1,9 @@
 -- Multiples of a number among the whole numbers, by remainder and by quotient.
-use Rattle.std.proofs.Common.{◌≡◌, ℕ, suc, ◌+◌, ◌%◌, ◌<◌, Bool, true, false, ◌&&◌, eqb, List, [], ◌∷◌, ℤ, pos, ◌+ℤ◌, ◌*ℤ◌, nat_abs, sym, refl, ap, ◌∙◌, arith, eq-eqb}
+use Rattle.std.proofs.Common.{◌≡◌, ℕ, ◌+◌, ◌%◌, ◌<◌, Bool, true, false, eqb, List, ℤ, pos, ◌+ℤ◌, ◌*ℤ◌, nat_abs, sym, refl, ap, ◌∙◌, arith, eq-eqb}
 use native.Mathlib.Nat.{mul-mod_right}
 use borrow.Author.Differences.{ints}
 use Rattle.std.proofs.lemmas.Bool.Decides.{nat_tests}
+use Rattle.std.proofs.lemmas.List.Recursion.{and_from_places}
 use Rattle.std.proofs.lemmas.Int.{unsigned_abs-mul}
 use Rattle.std.proofs.lemmas.Nat.Gcd.{dvd_of_mod-eq-zero}
 use Rattle.calculus.specs.Advice.{turned_side}
@@ -43,9 +44,9 @@ multiple_floor d z l m =
 
 -- coefficients that all divide pass the test
 pub divide_test : (d : ℕ) (cs : List ℤ) → ((i : ℕ) → Multiple d (coef cs i)) → all_divide d cs ≡ true
-divide_test d [] h = refl
-divide_test d (c ∷ cs) h =
-    ap (λ (b : Bool). b && all_divide d cs) (eq-eqb (nat_abs c % d) 0 (mod_multiple d c (h 0))) ∙ divide_test d cs (λ i. h (suc i))
+divide_test d cs h =
+    and_from_places (all_divide d) (λ c. eqb (nat_abs c % d) 0) refl (λ _ _. refl) cs (pos 0)
+    (λ i l. eq-eqb (nat_abs (coef cs i) % d) 0 (mod_multiple d (coef cs i) (h i)))
 
 -- ---- in tightening
 

@@ -3,6 +3,7 @@ use Rattle.std.proofs.Common.{◌≡◌, ℕ, zero, suc, ◌+◌, ◌<◌, Bool,
 use Rattle.std.specs.List.{AllByRecursion}
 use Rattle.std.proofs.lemmas.List.{length-append, length-map}
 use Rattle.std.proofs.lemmas.Bool.Decides.{nat_tests}
+use Rattle.std.proofs.lemmas.Bool.{both_ways}
 use Rattle.calculus.specs.Advice.{Order, Mind, Advice, advised, named, Orderly, Keeps, Advises, open_or, first_open, only_if, choice}
 use Rattle.calculus.specs.Advice.{told_by, told, by_number, naming, others, to_front}
 use Rattle.calculus.specs.Advice.{turned_side, turned_pair, turned_mind}
@@ -153,7 +154,7 @@ pub choice_open : ChoiceOpen
 choice_open o lows highs orderly l h = (
   λ x s e. let r = open_some o lows highs x s (sym (chosen o lows highs l h) ∙ e) in
       let n = r.0 in let once = orderly x in
-      (grind (arith, nat_tests), λ same. let z : false ≡ true = sym r.1 ∙ (same_number_decides _ _).1 same in absurd (grind arith)),
+      (grind (arith, nat_tests), λ same. both_ways _ r.1 ((same_number_decides _ _).1 same)),
   λ e x less. let once = orderly x in
       let n : 0 < named x o = grind (arith, nat_tests) in
       (same_number_decides _ _).0 (open_none o lows highs x (sym (chosen o lows highs l h) ∙ e) n),

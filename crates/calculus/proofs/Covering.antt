@@ -2,7 +2,7 @@
 use Rattle.std.proofs.Common.{◌≡◌, ℕ, zero, suc, ◌<◌, ◌≤◌, Bool, true, false, ◌||◌, ◌⊎◌, List, [], ◌∷◌, length, ℤ, pos, negsuc, ◌+ℤ◌, ◌*ℤ◌, ◌≤ℤ◌, ◌<ℤ◌, sym, refl, ap, ◌∙◌, inl, inr, ⊎_elim, arith, ne_eqb}
 use borrow.Author.Differences.{ints}
 use Rattle.std.proofs.lemmas.Int.{by_lt_z}
-use Rattle.std.proofs.lemmas.Bool.{cases_eq, cases_lt, and_right, or_right}
+use Rattle.std.proofs.lemmas.Bool.{cases_eq, cases_lt, and_right, or_right, both_ways, false≢true}
 use Rattle.calculus.specs.Arithmetic.{floor}
 use Rattle.calculus.specs.Bounds.{Trail, on, without}
 use Rattle.calculus.specs.Rows.{Row, coef, cut}
@@ -117,7 +117,7 @@ pub covered_past : (e : Entry) (t : Trail) (r : Row) → Covered (e ∷ t) r →
 covered_past e t r h m s y k =
     ⊎_elim
     (λ (d : e.unknown ≡ y). ⊎_elim
-    (λ (same : e.side ≡ s). let z : true ≡ false = sym k ∙ sym (λ i. matches (same i) (coef r.coefs (d i))) ∙ m in absurd (grind arith))
+    (λ (same : e.side ≡ s). absurd (both_ways _ m ((λ i. matches (same i) (coef r.coefs (d i))) ∙ k)))
     (λ (g : has s y t ≡ true). g)
     (has_by (on s y e) s y e t refl (h s y k)))
     (λ (d : e.unknown ≡ y → ⊥). has_else s y e t d (h s y k))
@@ -152,8 +152,8 @@ covered_cut t k r l div h s y m =
 -- a row covered by no entry at all has no coefficient
 pub covered_none : (r : Row) → Covered [] r → (y : ℕ) → coef r.coefs y ≡ pos 0
 covered_none r h y =
-    matches_none (coef r.coefs y) (λ m. let z : false ≡ true = h Low y m in absurd (grind arith))
-    (λ m. let z : false ≡ true = h High y m in absurd (grind arith))
+    matches_none (coef r.coefs y) (λ m. false≢true (h Low y m))
+    (λ m. false≢true (h High y m))
 
 -- ---- rows without coefficients past the unknowns
 

@@ -1,7 +1,7 @@
 -- Laws of whole runs: where a run rests it stays, larger budgets come through the same machines, and every run rests.
 use Rattle.std.proofs.Common.{◌≡◌, ℕ, zero, suc, ◌+◌, ◌-◌, ◌*◌, ◌<◌, ◌≤◌, Bool, true, false, not, ◌&&◌, ◌||◌, eqb, leb, ◌⊎◌, List, [], ◌∷◌, length, take, ℤ, Ok, Err, Result, sym, refl, ap, ◌∙◌, subst, inl, inr, le_trans, mul-le-mul_right, suc-add, zero-add, arith}
 use Rattle.std.proofs.lemmas.List.{length-take}
-use Rattle.std.proofs.lemmas.Bool.{and_parts, or_parts, or_right}
+use Rattle.std.proofs.lemmas.Bool.{and_parts, or_parts, or_right, false≢true}
 use Rattle.std.proofs.lemmas.Bool.Decides.{nat_tests}
 use Rattle.calculus.specs.Account.{when, answered}
 use Rattle.calculus.specs.Advice.{Advice, advised}
@@ -56,7 +56,7 @@ over_rests c budget g h = ap (λ (b : Bool). b || (is_due (act c g.at) && leb bu
 alike_by : (b l : Bool) (now next : Progress) → (l ≡ true → b ≡ true) →
     (within_budget b now next ≡ within_budget l now next) ⊎ (within_budget b now next ≡ now)
 alike_by true l now next h = inr refl
-alike_by false true now next h = let z : false ≡ true = h refl in absurd (grind arith)
+alike_by false true now next h = absurd (false≢true (h refl))
 alike_by false false now next h = inl refl
 
 alike : (budget larger : ℕ) (a : Acted) (g : Progress) → budget ≤ larger →

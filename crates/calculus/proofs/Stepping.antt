@@ -3,6 +3,7 @@
 use Rattle.std.proofs.Common.{◌≡◌, ℕ, zero, suc, ◌+◌, ◌<◌, ◌≤◌, Bool, true, false, ltb, leb, ◌⊎◌, List, [], ◌∷◌, ◌++◌, length, ℤ, nat_abs, Some, None, Ok, Err, Option, sym, refl, ap, ◌∙◌, inl, inr, arith}
 use Rattle.std.proofs.lemmas.List.{append-nil, append_assoc, length-append}
 use Rattle.std.proofs.lemmas.Bool.Decides.{nat_tests}
+use Rattle.std.proofs.lemmas.Bool.{both_ways}
 use Rattle.calculus.specs.Advice.{Advice, told}
 use Rattle.calculus.specs.Bounds.{Trail}
 use Rattle.calculus.specs.Limits.{most_entries}
@@ -312,7 +313,7 @@ act_in_ok (repairing j line place) c m e =
     repair_ok m.trail c m j line place refl (ap is_over e) (ap (λ (p : Phase). togo p (length m.trail)) e)
 act_in_ok (ended x) c m e = (
   record { lines = grows_same c.capacity m.lines; advice = inl refl; short = λ s. s; ends = λ h. h },
-  λ busy. let z : true ≡ false = sym (ap is_over e) ∙ busy in absurd (grind arith),
+  λ busy. absurd (both_ways _ busy (ap is_over e)),
 )
 
 -- every step is fine

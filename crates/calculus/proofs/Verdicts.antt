@@ -1,7 +1,7 @@
 -- What a check answers: accepted just where every line is justified and the last one contradicts, and each objection with its reason.
 use Rattle.std.proofs.Common.{◌≡◌, ℕ, zero, suc, ◌+◌, ◌<◌, ◌≤◌, Bool, true, false, eqb, ltb, List, [], ◌∷◌, ◌++◌, length, take, Some, None, Ok, Err, Option, Result, sym, refl, ap, ◌∙◌, subst, arith, eq-eqb}
 use Rattle.std.proofs.lemmas.List.{append-nil, append_assoc, length-append}
-use Rattle.std.proofs.lemmas.Bool.{and_parts, ltb-true, eqb-true}
+use Rattle.std.proofs.lemmas.Bool.{and_parts, ltb-true, eqb-true, both_ways}
 use Rattle.calculus.specs.CheckLaws.{AcceptsRight, MisfitIs, FirstWrong, OpenIs}
 use Rattle.calculus.specs.Checking.{judged, Justified, wrong_or, wrong_from, closes, open_unless, line_or, fit_or, check_end}
 use Rattle.calculus.specs.Logs.{Line, Logbook, line_at}
@@ -106,7 +106,7 @@ misfit_is rs rows log h n = by (origin_of rs rows log Misfit h)
   where
     by : Origin (eqb log.unknowns (length rs)) (wrong_from rs (rows_of rows) [] log.lines) (closes log.lines) (length log.lines)
         Misfit → ⊥
-    by (unfit e f) = let t = eq-eqb log.unknowns (length rs) n in let z : true ≡ false = sym t ∙ e in absurd (grind arith)
+    by (unfit e f) = both_ways _ e (eq-eqb log.unknowns (length rs) n)
     by (wrong_line e) = let w = wrongs rs (rows_of rows) [] log.lines Misfit e in let i = w.is in
         absurd cc
     by (still_open e f g) = absurd cc

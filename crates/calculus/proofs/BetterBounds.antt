@@ -1,10 +1,9 @@
 -- A better bound is the last value that its row still allows.
 use Rattle.std.proofs.Common.{◌≡◌, ℕ, zero, suc, ◌<◌, Bool, true, false, ◌&&◌, eqb, List, [], ◌∷◌, set, ℤ, pos, negsuc, ◌+ℤ◌, ◌-ℤ◌, ◌*ℤ◌, neg_ℤ, ◌≤ℤ◌, ◌<ℤ◌, Some, Decides, Option, sym, refl, ap, ◌∙◌, subst, ⊎_elim, arith, get_or-set_other, eq-eqb, ne_eqb}
-use borrow.Author.Differences.{ints}
-use lib.Signed.{le_z, lt_z}
-use Rattle.std.proofs.lemmas.Int.{by_lt_z}
+use Rattle.std.proofs.lemmas.Int.{by_lt_z, ints}
 use Rattle.std.proofs.lemmas.Bool.{cases_eq}
 use Rattle.std.proofs.lemmas.Bool.Decides.{Decides-and}
+use Rattle.std.specs.Int.Signed.{le_z, lt_z}
 use Rattle.calculus.specs.Advice.{turned_side}
 use Rattle.calculus.specs.Arithmetic.{sum, floor, ceiling}
 use Rattle.calculus.specs.Bounds.{here_or, term, least, without, bounded, better}

@@ -1,7 +1,6 @@
 -- Covered rows: each of their terms has an entry on the trail that matches it. What keeps a row covered as entries are read or taken off.
 use Rattle.std.proofs.Common.{◌≡◌, ℕ, zero, suc, ◌<◌, ◌≤◌, Bool, true, false, ◌||◌, ◌⊎◌, List, [], ◌∷◌, length, ℤ, pos, negsuc, ◌+ℤ◌, ◌*ℤ◌, ◌≤ℤ◌, ◌<ℤ◌, sym, refl, ap, ◌∙◌, inl, inr, ⊎_elim, arith, ne_eqb}
-use borrow.Author.Differences.{ints}
-use Rattle.std.proofs.lemmas.Int.{by_lt_z}
+use Rattle.std.proofs.lemmas.Int.{by_lt_z, ints}
 use Rattle.std.proofs.lemmas.Bool.{cases_eq, cases_lt, and_right, or_right, both_ways, false≢true}
 use Rattle.calculus.specs.Arithmetic.{floor}
 use Rattle.calculus.specs.Bounds.{Trail, on, without}

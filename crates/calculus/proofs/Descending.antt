@@ -1,7 +1,7 @@
 -- Tightening's invariant while the trail is read downwards: the bound of the row is kept, and what is set aside divides.
 -- One lemma for each of the three kinds of entry. Rests on Resolving, Covering, Reasons and Multiples.
 use Rattle.std.proofs.Common.{◌≡◌, ℕ, ◌<◌, true, false, eqb, List, ◌∷◌, length, ℤ, pos, ◌+ℤ◌, ◌*ℤ◌, nat_abs, ◌≤ℤ◌, sym, refl, ap, ◌∙◌, subst, arith}
-use borrow.Author.Differences.{ints}
+use Rattle.std.proofs.lemmas.Int.{ints}
 use Rattle.calculus.specs.Advice.{turned_side}
 use Rattle.calculus.specs.Arithmetic.{sum}
 use Rattle.calculus.specs.Bounds.{Trail, here_or, low, high, term, least, without}

@@ -1,11 +1,11 @@
 -- The greatest common divisor: its two equations, and what it divides.
 use Rattle.std.proofs.Common.{◌≡◌, ℕ, zero, suc, ◌%◌, ◌<◌, ◌≤◌, max, List, [], ◌∷◌, ℤ, pos, nat_abs, fold, sym, refl, ap, ◌∙◌, subst, le_refl, not-suc-le-zero, mod-lt, arith}
 use Prim.Native.Nat.{◌∣◌}
-use native.Mathlib.Nat.{one-dvd}
 use Rattle.std.specs.Int.{IsGcd}
 use Rattle.std.proofs.lemmas.Nat.Gcd.{dvd_refl, dvd-zero, dvd_trans, IsGcd-from_zero, IsGcd-from_mod, same_from_IsGcd}
 use Rattle.std.specs.List.{AllByRecursion}
 use Rattle.std.proofs.ByRecursion.{All-weaker}
+use Rattle.std.proofs.Math.Nat.{one-dvd}
 use Rattle.calculus.specs.Arithmetic.{divisor_within, divisor, common}
 use Rattle.calculus.specs.Rows.{row_divisor}
 

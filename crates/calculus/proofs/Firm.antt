@@ -3,12 +3,11 @@
 -- on what a step without a move leaves of the trail.
 use Rattle.std.specs.Prelude.{None}
 use Rattle.std.proofs.Common.{◌≡◌, ℕ, zero, suc, ◌+◌, ◌<◌, ◌≤◌, Bool, true, false, eqb, ◌⊎◌, List, [], ◌∷◌, length, ℤ, pos, ◌≤ℤ◌, ◌<ℤ◌, Some, sym, refl, ap, ◌∙◌, subst, inl, inr, ⊎_elim, arith}
-use borrow.Author.Differences.{ints}
-use lib.Signed.{lt_z}
 use Rattle.std.specs.List.{AllByRecursion}
 use Rattle.std.proofs.lemmas.List.{get_or_past}
-use Rattle.std.proofs.lemmas.Int.{by_lt_z}
+use Rattle.std.proofs.lemmas.Int.{by_lt_z, ints}
 use Rattle.std.proofs.lemmas.Bool.{and_parts, and_from, and_left, and_right, or_parts, cases_lt, eqb-true, eq-eqb, ne_eqb, false≢true}
+use Rattle.std.specs.Int.Signed.{lt_z}
 use Rattle.calculus.specs.Account.{bad_range}
 use Rattle.calculus.specs.Advice.{Order, Advice, first_open, only_if, choice, turned_side}
 use Rattle.calculus.specs.Bounds.{Trail, same_side, on, here_or, range_at, low, high, lows, highs, row_at, better_under}

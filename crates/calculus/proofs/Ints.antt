@@ -1,10 +1,10 @@
 -- Laws of the whole numbers that the library lacks: products, orders, rounding.
 use Rattle.std.proofs.Common.{◌≡◌, ℕ, zero, suc, ◌*◌, ◌/◌, ◌<◌, ℤ, pos, negsuc, ◌+ℤ◌, ◌*ℤ◌, neg_ℤ, ◌≤ℤ◌, ◌<ℤ◌, ap, ◌∙◌, mod-lt, mul-le-mul_left, div-one, arith}
-use native.Mathlib.Nat.{div-add-mod}
 use borrow.Author.Differences.{ints, up, down, sum_is_lem, neg_is, product_is, le_out}
-use lib.IntN.{*ℤ_comm}
-use lib.Signed.{clash_ℤ}
 use Rattle.std.proofs.lemmas.Int.{by_lt_z}
+use Rattle.std.proofs.Math.Nat.{div-add-mod}
+use Rattle.std.proofs.Math.IntN.{*ℤ_comm}
+use Rattle.std.specs.Int.Signed.{clash_ℤ}
 use Rattle.calculus.specs.Arithmetic.{floor, ceiling, sum}
 
 times : (k : ℕ) {a b : ℕ} → a ≡ b → k * a ≡ k * b

@@ -1,7 +1,7 @@
 -- A decision that may not be dropped: the conflict has a better bound there, on the other side. Rests on the run's invariant.
 use Rattle.std.proofs.Common.{◌≡◌, suc, Bool, true, false, ◌&&◌, List, ◌∷◌, ℤ, neg_ℤ, Some, sym, refl, ap, subst, arith}
-use borrow.Author.Differences.{ints}
-use lib.Signed.{le_z, lt_z}
+use Rattle.std.specs.Int.Signed.{le_z, lt_z}
+use Rattle.std.proofs.lemmas.Int.{ints}
 use Rattle.calculus.specs.Advice.{turned_side}
 use Rattle.calculus.specs.Arithmetic.{floor, ceiling}
 use Rattle.calculus.specs.Bounds.{Trail, low, high, without, bounded, fails_under}

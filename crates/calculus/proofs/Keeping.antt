@@ -1,11 +1,11 @@
 -- The invariant of a run with its log, and that each step keeps it: one lemma for each function of the machine.
 -- Rests on Tightens and Conflicts for what the steps do to rows, and on Firm for the trail.
 use Rattle.std.proofs.Common.{◌≡◌, ℕ, suc, ◌-◌, ◌<◌, Bool, true, false, ◌&&◌, ltb, leb, List, [], ◌∷◌, length, ℤ, pos, nat_abs, ◌<ℤ◌, Some, None, Ok, Err, Option, sym, refl, ap, ◌∙◌, subst, arith}
-use borrow.Author.Differences.{ints}
-use lib.Signed.{lt_z}
 use Rattle.std.proofs.lemmas.Bool.{lt-ltb}
 use Rattle.std.proofs.lemmas.List.Recursion.{and_from_places}
 use Rattle.std.proofs.lemmas.Bool.Decides.{nat_tests}
+use Rattle.std.specs.Int.Signed.{lt_z}
+use Rattle.std.proofs.lemmas.Int.{ints}
 use Rattle.calculus.specs.Advice.{Advice, choice, told, turned_side}
 use Rattle.calculus.specs.Arithmetic.{common}
 use Rattle.calculus.specs.Arithmetic.{same_number}

@@ -1,8 +1,9 @@
 -- What a move is: the number of times a partner is added, what a decision fixes, and each move one of three and only one.
 use Rattle.std.proofs.Common.{◌≡◌, ℕ, zero, suc, ◌+◌, ◌-◌, ◌%◌, ◌<◌, ◌≤◌, Bool, true, false, ltb, leb, ◌⊎◌, List, [], ◌∷◌, map, length, ℤ, pos, negsuc, ◌+ℤ◌, ◌*ℤ◌, nat_abs, Some, None, Ok, Err, Option, sym, refl, ap, ◌∙◌, subst, inl, inr, ⊎_elim, mod-lt, mod-eq_of_lt, arith}
-use native.Mathlib.Nat.{mod-le, mod_self, mod-add-mod, add-mod-mod, dvd_of_mod-eq-zero, mod-eq-zero_of_dvd}
-use borrow.Author.Differences.{ints}
 use Rattle.std.proofs.lemmas.Bool.{ltb-true, lt-ltb, cases_lt}
+use Rattle.std.proofs.lemmas.Nat.Gcd.{dvd_of_mod-eq-zero, mod-eq-zero_of_dvd}
+use Rattle.std.proofs.Math.Nat.{mod-le, mod_self, mod-add-mod, add-mod-mod}
+use Rattle.std.proofs.lemmas.Int.{ints}
 use Rattle.calculus.specs.Advice.{Advice, choice, told}
 use Rattle.calculus.specs.Arithmetic.{common}
 use Rattle.calculus.specs.Bounds.{Trail, low, high, lows, highs, row_at, fails_under, better_under, conflict, propagating}

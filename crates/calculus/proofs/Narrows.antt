@@ -1,8 +1,8 @@
 -- Tightening reads the whole trail and keeps its invariant and the log's. Rests on Descending and GoodLogs.
 use Rattle.std.specs.Prelude.{None, Option, Some}
 use Rattle.std.proofs.Common.{◌≡◌, ℕ, zero, suc, ◌<◌, Bool, true, false, List, [], ◌∷◌, ◌++◌, length, ℤ, nat_abs, ◌≤ℤ◌, ◌<ℤ◌, Ok, Err, sym, refl, ◌∙◌, subst, arith}
-use borrow.Author.Differences.{ints}
 use Rattle.std.proofs.lemmas.List.{append_assoc}
+use Rattle.std.proofs.lemmas.Int.{ints}
 use Rattle.calculus.specs.Advice.{turned_side}
 use Rattle.calculus.specs.Bounds.{Trail, low, high}
 use Rattle.calculus.specs.Logs.{Line, line_row, Written, written}

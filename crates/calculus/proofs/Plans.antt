@@ -1,9 +1,9 @@
 -- A plan lies within the ranges and meets every row, whatever the lines say: at a plan no row fails and no unknown is open, so that the
 -- least value of each row is its value at the lows. It rests on the firm trail and on what an adviser's choice is.
 use Rattle.std.proofs.Common.{◌≡◌, ℕ, ◌<◌, Bool, true, false, not, eqb, ◌⊎◌, List, [], length, ℤ, pos, ◌+ℤ◌, ◌*ℤ◌, Ok, Err, Result, sym, refl, ap, ◌∙◌, subst, inl, inr, arith}
-use borrow.Author.Differences.{ints}
 use Rattle.std.proofs.lemmas.List.{length-map, get_or-map}
 use Rattle.std.proofs.lemmas.Bool.{eqb-true, true≢false}
+use Rattle.std.proofs.lemmas.Int.{ints}
 use Rattle.calculus.specs.Advice.{Advice, Advises, advised}
 use Rattle.calculus.specs.Arithmetic.{sum}
 use Rattle.calculus.specs.Bounds.{Trail, low, high, lows, highs, term, least, row_at, fails_under}

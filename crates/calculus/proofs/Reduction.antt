@@ -1,11 +1,11 @@
 -- Reduced forms: they divide, the same assignments meet them, and doubles are told by them.
 use Rattle.std.proofs.Common.{◌≡◌, ℕ, zero, suc, ◌/◌, ◌<◌, List, [], ◌∷◌, map, length, ℤ, pos, negsuc, ◌+ℤ◌, ◌*ℤ◌, neg_ℤ, nat_abs, ◌≤ℤ◌, Decides, sym, refl, ap, ◌∙◌, subst, arith}
 use Prim.Native.Nat.{◌∣◌}
-use native.Mathlib.Nat.{mul-div_cancel'}
-use borrow.Author.Differences.{ints}
-use lib.IntN.{*ℤ-zero}
 use Rattle.std.specs.List.{AllByRecursion}
 use Rattle.std.proofs.lemmas.Bool.Decides.{Decides-and}
+use Rattle.std.proofs.Math.Nat.{mul-div_cancel'}
+use Rattle.std.proofs.Math.IntN.{*ℤ-zero}
+use Rattle.std.proofs.lemmas.Int.{ints}
 use Rattle.calculus.specs.Arithmetic.{sum, floor, ceiling, same_number}
 use Rattle.calculus.specs.Rows.{Row, Standing, coef, value, Meets, row_divisor, reduced, same_numbers, same_row, double}
 use Rattle.calculus.proofs.Divisors.{row_divides, row_divisor_plain}

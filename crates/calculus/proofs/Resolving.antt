@@ -1,6 +1,6 @@
 -- Tight rows, and what adding one does: it takes an unknown out of a row and the least value does not fall. Rests on Leasts.
 use Rattle.std.proofs.Common.{◌≡◌, ℕ, zero, suc, ◌<◌, true, false, ℤ, pos, negsuc, ◌+ℤ◌, ◌*ℤ◌, neg_ℤ, nat_abs, ◌≤ℤ◌, refl, ap, ◌∙◌, arith}
-use borrow.Author.Differences.{ints}
+use Rattle.std.proofs.lemmas.Int.{ints}
 use Rattle.calculus.specs.Advice.{turned_side}
 use Rattle.calculus.specs.Arithmetic.{sum}
 use Rattle.calculus.specs.Bounds.{term, least, without}

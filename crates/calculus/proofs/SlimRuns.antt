@@ -2,14 +2,15 @@
 -- by one lemma for each of its functions. Rests on Good, on Firsts, on Divisors and on Running.
 use Rattle.std.proofs.Common.{◌≡◌, ℕ, zero, suc, ◌-◌, ◌%◌, ◌<◌, ◌≤◌, Bool, true, false, not, ◌&&◌, ◌||◌, eqb, ltb, leb, ◌⊎◌, List, [], ◌∷◌, map, length, replicate, ℤ, pos, negsuc, ◌*ℤ◌, neg_ℤ, nat_abs, Some, None, Ok, Err, Decides, Option, sym, refl, ◌∙◌, subst, inl, inr, ⊎_elim, div-le_self, arith}
 use Prim.Native.Nat.{◌∣◌}
-use native.Mathlib.Nat.{mod-le, le_of_dvd}
-use borrow.Author.Differences.{ints}
-use lib.Signed.{lt_z}
 use Rattle.std.specs.List.{AllByRecursion}
 use Rattle.std.proofs.ByRecursion.{All-get_or, All-append, All-set, All-push, All-weaker, All-take, All-map, Decides-by_and}
 use Rattle.std.proofs.lemmas.List.{length-set, length-map, length-replicate}
 use Rattle.std.proofs.lemmas.List.Elements.{recursion_from_All, All-replicate}
 use Rattle.std.proofs.lemmas.Bool.{and_parts, and_from, or_parts, not-false, leb-true, le-leb}
+use Rattle.std.proofs.lemmas.Nat.Gcd.{le_of_dvd}
+use Rattle.std.proofs.Math.Nat.{mod-le}
+use Rattle.std.specs.Int.Signed.{lt_z}
+use Rattle.std.proofs.lemmas.Int.{ints}
 use Rattle.calculus.specs.Account.{bad_range, heavy}
 use Rattle.calculus.specs.Advice.{Advice, told, choice, turned_side}
 use Rattle.calculus.specs.Arithmetic.{floor, ceiling, common, near}

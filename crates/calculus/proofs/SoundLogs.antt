@@ -1,13 +1,13 @@
 -- Logs are sound: an assignment within the ranges that meets every row meets every line that is made from them, and no assignment meets
 -- a row that contradicts. So a log that a check accepts excludes every plan. Rests on Good, on Leasts and on Reduction.
 use Rattle.std.proofs.Common.{◌≡◌, ℕ, zero, suc, ◌-◌, ◌%◌, ◌<◌, Bool, true, false, not, ◌&&◌, eqb, ltb, List, [], ◌∷◌, ◌++◌, map, length, take, ℤ, pos, negsuc, ◌+ℤ◌, ◌*ℤ◌, neg_ℤ, nat_abs, ◌≤ℤ◌, Some, None, Ok, Err, Option, Result, sym, refl, ap, ◌∙◌, subst, arith}
-use borrow.Author.Differences.{ints}
-use lib.IntN.{zero-*ℤ, *ℤ-zero}
-use lib.Signed.{lt_z}
 use Rattle.std.proofs.ByRecursion.{All-get_or, All-map}
 use Rattle.std.proofs.lemmas.List.{append-nil, append_assoc, length-take-le, get_or-take}
 use Rattle.std.proofs.lemmas.Bool.{and_parts, eqb-true, ltb-true}
 use Rattle.std.proofs.lemmas.Nat.Gcd.{dvd-zero, dvd_of_mod-eq-zero}
+use Rattle.std.proofs.Math.IntN.{zero-*ℤ, *ℤ-zero}
+use Rattle.std.specs.Int.Signed.{lt_z}
+use Rattle.std.proofs.lemmas.Int.{ints}
 use Rattle.calculus.specs.Account.{when, answered}
 use Rattle.calculus.specs.Arithmetic.{sum, floor, same_number}
 use Rattle.calculus.specs.Bounds.{range_at, row_at}

@@ -1,9 +1,9 @@
 -- The start of a run meets its invariant: the base lines are sound, and the range entries are held by them.
 -- Then so does every machine of a run. Rests on GoodLogs, Reasons and Keeping.
 use Rattle.std.proofs.Common.{◌≡◌, ℕ, zero, suc, ◌+◌, ◌<◌, ◌≤◌, Bool, true, false, List, [], ◌∷◌, ◌++◌, length, replicate, ℤ, pos, negsuc, neg_ℤ, sym, refl, ap, ◌∙◌, subst, arith}
-use borrow.Author.Differences.{ints}
 use Rattle.std.proofs.lemmas.List.{append-nil, append_assoc, length-append, length-set, length-replicate, get_or_past, get_or_at, get_or-append-add}
 use Rattle.std.proofs.lemmas.Bool.{or_left, lt-ltb}
+use Rattle.std.proofs.lemmas.Int.{ints}
 use Rattle.calculus.specs.Advice.{Advice}
 use Rattle.calculus.specs.Bounds.{Trail, low, high, least, without, range_at, row_at}
 use Rattle.calculus.specs.Logs.{Line, no_line, line_at, line_row}

@@ -1,10 +1,9 @@
 -- Tightening ends in a tight row whose bound is at least as good as that of the row it was given. Rests on Narrows.
 use Rattle.std.proofs.Common.{◌≡◌, ℕ, zero, suc, ◌%◌, ◌<◌, Bool, true, false, ◌&&◌, leb, List, [], length, ℤ, pos, negsuc, ◌+ℤ◌, ◌-ℤ◌, ◌*ℤ◌, neg_ℤ, nat_abs, ◌≤ℤ◌, ◌<ℤ◌, Some, Ok, Err, sym, refl, ap, ◌∙◌, subst, arith, eq-eqb}
-use native.Mathlib.Nat.{mod_self}
-use borrow.Author.Differences.{ints}
-use lib.Signed.{le_z, lt_z}
-use Rattle.std.proofs.lemmas.Int.{by_lt_z}
+use Rattle.std.proofs.lemmas.Int.{by_lt_z, ints}
 use Rattle.std.proofs.lemmas.Bool.Decides.{nat_tests}
+use Rattle.std.proofs.Math.Nat.{mod_self}
+use Rattle.std.specs.Int.Signed.{le_z, lt_z}
 use Rattle.calculus.specs.Arithmetic.{sum, floor, ceiling}
 use Rattle.calculus.specs.Bounds.{Trail, here_or, low, high, term, least, without, bounded, better_under}
 use Rattle.calculus.specs.Logs.{Line, line_row, Written}

@@ -82,7 +82,7 @@ decision_fixes rs t x = (
     other Low y n = (refl, here_other x y (low rs t x) (high rs t y) n)
     other High y n = (here_other x y (high rs t x) (low rs t y) n, refl)
 
--- two steps that come to different things
+-- two moves that come to the same
 same_move : {m m' : Machine} → moved m ≡ moved m' → m ≡ m'
 same_move e = cc
 

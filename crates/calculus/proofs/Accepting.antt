@@ -1,6 +1,6 @@
 -- Logs are accepted: lines that are made as their kinds say and keep to their limits are justified and fit their fields, and a log of
 -- them whose last line contradicts passes a check. Rests on Good and on Reduction.
-use Rattle.std.proofs.Common.{◌≡◌, ℕ, suc, ◌<◌, ◌≤◌, Bool, true, false, not, ◌&&◌, eqb, ltb, List, [], ◌∷◌, ◌++◌, length, take, Some, None, Ok, Option, Result, sym, refl, ap, ◌∙◌, subst, arith}
+use Rattle.std.proofs.Common.{◌≡◌, ℕ, suc, ◌<◌, ◌≤◌, Bool, true, not, ◌&&◌, eqb, ltb, List, [], ◌∷◌, ◌++◌, length, take, Some, None, Ok, Option, Result, sym, refl, ap, ◌∙◌, subst, arith}
 use Rattle.std.specs.List.{AllByRecursion}
 use Rattle.std.proofs.ByRecursion.{All-get_or, All-from_get_or}
 use Rattle.std.proofs.lemmas.List.{append-nil, append_assoc, length-take-le}
@@ -62,10 +62,7 @@ may_slim rs rows ls (Cut a k) c f = c.1
 
 passes : (a b c : Bool) → a ≡ true → b ≡ true → c ≡ true →
     answered {A = Unit {0}} (when (not a) Operand ∷ when (not b) Multiplier ∷ when (not c) Mismatch ∷ []) tt ≡ Ok tt
-passes true true true p q r = refl
-passes true true false p q r = absurd (grind arith)
-passes true false c p q r = absurd (grind arith)
-passes false b c p q r = absurd (grind arith)
+passes a b c p q r = λ i. answered {A = Unit {0}} (when (not (p i)) Operand ∷ when (not (q i)) Multiplier ∷ when (not (r i)) Mismatch ∷ []) tt
 
 -- a line that is made as its kind says and keeps to its limits is justified
 pub made_justified : (rs : List Range) (rows : List Row) (ls : List Line) (l : Line) → Made rs rows ls l → Slim (length rs) l →
@@ -103,10 +100,7 @@ none_wrong rs rows before (l ∷ ls) h =
 
 pub found_nothing : (b : Bool) (o : Option Objection) (c : Bool) (held : ℕ) → b ≡ true → o ≡ None → c ≡ true →
     fit_or b (line_or o (open_unless c held)) ≡ None
-found_nothing false o c held p q r = absurd (grind arith)
-found_nothing true (Some o) c held p q r = absurd cc
-found_nothing true None false held p q r = absurd (grind arith)
-found_nothing true None true held p q r = refl
+found_nothing b o c held p q r = λ i. fit_or (p i) (line_or (q i) (open_unless (r i) held))
 
 -- a check accepts a log of such lines whose last one contradicts, and each of them is justified
 pub good_accepted : (rs : List Range) (rows : List Standing) (log : Logbook) → Good rs (rows_of rows) log.lines →

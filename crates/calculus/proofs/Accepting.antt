@@ -1,10 +1,11 @@
 -- Logs are accepted: lines that are made as their kinds say and keep to their limits are justified and fit their fields, and a log of
 -- them whose last line contradicts passes a check. Rests on Good and on Reduction.
-use Rattle.std.proofs.Common.{◌≡◌, ℕ, suc, ◌<◌, ◌≤◌, Bool, true, false, not, ◌&&◌, eqb, ltb, List, [], ◌∷◌, ◌++◌, length, take, Some, None, Ok, Option, Result, sym, refl, ap, ◌∙◌, subst, arith}
+use Rattle.std.proofs.Common.{◌≡◌, ℕ, suc, ◌<◌, ◌≤◌, Bool, true, not, ◌&&◌, eqb, ltb, List, [], ◌∷◌, ◌++◌, length, take, Some, None, Ok, Option, Result, sym, refl, ap, ◌∙◌, subst, arith}
 use Rattle.std.specs.List.{AllByRecursion}
 use Rattle.std.proofs.ByRecursion.{All-get_or, All-from_get_or}
 use Rattle.std.proofs.lemmas.List.{append-nil, append_assoc, length-take-le}
 use Rattle.std.proofs.lemmas.Bool.{and_parts, and_from, ltb-true, lt-ltb, le-leb, eq-eqb}
+use Rattle.std.proofs.lemmas.Bool.Decides.{nat_tests}
 use Rattle.calculus.specs.Account.{when, answered}
 use Rattle.calculus.specs.Checking.{same_fields, kind_or, kind_of, operands, all_below, subject_there, given, may_give}
 use Rattle.calculus.specs.Checking.{multipliers_fit, judged_kind, judged, Justified, wrong_or, wrong_from, closes}
@@ -27,13 +28,8 @@ use Rattle.calculus.proofs.Reduction.{same_row_decides}
 
 -- ---- the kind of a line
 
-same_again : (n : ℕ) → eqb n n ≡ true
-same_again n = eq-eqb n n refl
-
 same_fields_again : (f : Fields) → same_fields f f ≡ true
-same_fields_again f =
-    and_from _ _ (same_again f.kind)
-    (and_from _ _ (same_again f.i) (and_from _ _ (same_again f.j) (and_from _ _ (same_again f.k) (same_again f.m))))
+same_fields_again f = grind (arith, nat_tests)
 
 kind_first : (k : Kind) (later : Option Kind) → kind_or (same_fields (fields_of k) (fields_of k)) k later ≡ Some k
 kind_first k later = ap (λ (b : Bool). kind_or b k later) (same_fields_again (fields_of k))
@@ -66,10 +62,7 @@ may_slim rs rows ls (Cut a k) c f = c.1
 
 passes : (a b c : Bool) → a ≡ true → b ≡ true → c ≡ true →
     answered {A = Unit {0}} (when (not a) Operand ∷ when (not b) Multiplier ∷ when (not c) Mismatch ∷ []) tt ≡ Ok tt
-passes true true true p q r = refl
-passes true true false p q r = absurd (grind arith)
-passes true false c p q r = absurd (grind arith)
-passes false b c p q r = absurd (grind arith)
+passes a b c p q r = λ i. answered {A = Unit {0}} (when (not (p i)) Operand ∷ when (not (q i)) Multiplier ∷ when (not (r i)) Mismatch ∷ []) tt
 
 -- a line that is made as its kind says and keeps to its limits is justified
 pub made_justified : (rs : List Range) (rows : List Row) (ls : List Line) (l : Line) → Made rs rows ls l → Slim (length rs) l →
@@ -107,10 +100,7 @@ none_wrong rs rows before (l ∷ ls) h =
 
 pub found_nothing : (b : Bool) (o : Option Objection) (c : Bool) (held : ℕ) → b ≡ true → o ≡ None → c ≡ true →
     fit_or b (line_or o (open_unless c held)) ≡ None
-found_nothing false o c held p q r = absurd (grind arith)
-found_nothing true (Some o) c held p q r = let z : ◌≡◌ {A = ℕ} 0 1 = cc in absurd (omega arith)
-found_nothing true None false held p q r = absurd (grind arith)
-found_nothing true None true held p q r = refl
+found_nothing b o c held p q r = λ i. fit_or (p i) (line_or (q i) (open_unless (r i) held))
 
 -- a check accepts a log of such lines whose last one contradicts, and each of them is justified
 pub good_accepted : (rs : List Range) (rows : List Standing) (log : Logbook) → Good rs (rows_of rows) log.lines →

@@ -3,6 +3,7 @@ use Rattle.std.proofs.Common.{◌≡◌, ℕ, zero, suc, ◌+◌, ◌<◌, Bool,
 use Rattle.std.specs.List.{AllByRecursion}
 use Rattle.std.proofs.lemmas.List.{length-append, length-map}
 use Rattle.std.proofs.lemmas.Bool.Decides.{nat_tests}
+use Rattle.std.proofs.lemmas.Bool.{both_ways}
 use Rattle.calculus.specs.Advice.{Order, Mind, Advice, advised, named, Orderly, Keeps, Advises, open_or, first_open, only_if, choice}
 use Rattle.calculus.specs.Advice.{told_by, told, by_number, naming, others, to_front}
 use Rattle.calculus.specs.Advice.{turned_side, turned_pair, turned_mind}
@@ -11,14 +12,14 @@ use Rattle.calculus.specs.Logs.{Logbook}
 use Rattle.calculus.specs.Machines.{Context, act}
 use Rattle.calculus.specs.RunLaws.{after, AdviceAfter, ChoiceOpen, ChoiceFirst, ThreeAdvise, ThreeAdvised, SteadyStays, TurnedTwice}
 use Rattle.calculus.specs.Rows.{Row, coef}
-use Rattle.calculus.specs.Runs.{start_by, start, enough_steps, whole_run, left_by, rows_of}
+use Rattle.calculus.specs.Runs.{start_by, whole_run, left_by, rows_of}
 use Rattle.calculus.specs.Tables.{table}
 use Rattle.calculus.specs.declared.ranges.Range.{Range}
 use Rattle.calculus.specs.declared.refusals.Refusal.{Refusal}
 use Rattle.calculus.specs.declared.sides.Side.{Side}
 use Rattle.calculus.specs.declared.sides.Side.TheVariants.{Low, High}
 use Rattle.calculus.proofs.Reduction.{same_number_decides}
-use Rattle.calculus.proofs.Running.{run_keeps, act_step}
+use Rattle.calculus.proofs.Running.{whole_keeps, act_step}
 use Rattle.calculus.proofs.Stepping.{Hears}
 use Rattle.calculus.proofs.Tabling.{table_long}
 
@@ -113,7 +114,7 @@ Fixed lows highs x = same_number (coef lows x) (coef highs x)
 none_by : (b : Bool) (p : ℕ × Side) (o : Order) (lows highs : List ℤ) (x : ℕ) → Fixed lows highs p.0 ≡ b →
     open_or b p (first_open o lows highs) ≡ None → 0 < named x (p ∷ o) →
     (first_open o lows highs ≡ None → 0 < named x o → Fixed lows highs x ≡ true) → Fixed lows highs x ≡ true
-none_by false p o lows highs x e h n later = let z : ◌≡◌ {A = ℕ} 0 1 = cc in absurd (omega arith)
+none_by false p o lows highs x e h n later = absurd cc
 none_by true p o lows highs x e h n later = here (eqb x p.0) refl
   where
     here : (b : Bool) → eqb x p.0 ≡ b → Fixed lows highs x ≡ true
@@ -140,7 +141,7 @@ some_by false p o lows highs x s e h later =
 -- the first open pair names an unknown of the order that is not fixed
 pub open_some : (o : Order) (lows highs : List ℤ) (x : ℕ) (s : Side) → first_open o lows highs ≡ Some (x, s) →
     (0 < named x o) × (Fixed lows highs x ≡ false)
-open_some [] lows highs x s h = let z : ◌≡◌ {A = ℕ} 0 1 = cc in absurd (omega arith)
+open_some [] lows highs x s h = absurd cc
 open_some (p ∷ o) lows highs x s h = some_by _ p o lows highs x s refl h (open_some o lows highs x s)
 
 chosen : (o : Order) (lows highs : List ℤ) → length lows ≡ length o → length highs ≡ length o →
@@ -153,7 +154,7 @@ pub choice_open : ChoiceOpen
 choice_open o lows highs orderly l h = (
   λ x s e. let r = open_some o lows highs x s (sym (chosen o lows highs l h) ∙ e) in
       let n = r.0 in let once = orderly x in
-      (grind (arith, nat_tests), λ same. let z : false ≡ true = sym r.1 ∙ (same_number_decides _ _).1 same in absurd (grind arith)),
+      (grind (arith, nat_tests), λ same. both_ways _ r.1 ((same_number_decides _ _).1 same)),
   λ e x less. let once = orderly x in
       let n : 0 < named x o = grind (arith, nat_tests) in
       (same_number_decides _ _).0 (open_none o lows highs x (sym (chosen o lows highs l h) ∙ e) n),
@@ -181,13 +182,13 @@ leads_by true q o lows highs p e h later =
     }
 
 leading : (o : Order) (lows highs : List ℤ) (p : ℕ × Side) → first_open o lows highs ≡ Some p → Leading o lows highs p
-leading [] lows highs p h = let z : ◌≡◌ {A = ℕ} 0 1 = cc in absurd (omega arith)
+leading [] lows highs p h = absurd cc
 leading (q ∷ o) lows highs p h = leads_by _ q o lows highs p refl h (leading o lows highs p)
 
 chosen_leads : (b : Bool) (o : Order) (lows highs : List ℤ) (p : ℕ × Side) → only_if b (first_open o lows highs) ≡ Some p →
     Leading o lows highs p
 chosen_leads true o lows highs p h = leading o lows highs p h
-chosen_leads false o lows highs p h = let z : ◌≡◌ {A = ℕ} 0 1 = cc in absurd (omega arith)
+chosen_leads false o lows highs p h = absurd cc
 
 pub choice_first : ChoiceFirst
 choice_first o lows highs x s h =
@@ -224,8 +225,7 @@ start_by_advice false c a = refl
 
 pub whole_like : (c : Context) (budget : ℕ) (a : Advice) → Advises a → Like a (whole_run c budget a).at.advice
 whole_like c budget a h =
-    run_keeps (λ m. Like a m.advice) c (λ m l. hears_like a m.advice (after (act c m)).advice (act_step c m).advice l) budget
-    (enough_steps budget) (record { at = start c a; made = 0 })
+    whole_keeps (λ m. Like a m.advice) c (λ m l. hears_like a m.advice (after (act c m)).advice (act_step c m).advice l) budget a
     (subst (λ (z : Advice). Like a z) (sym (start_by_advice _ c a)) (record { advises = h; same = refl; rule = refl }))
 
 after_by : (r : Result (Unit {0}) Refusal) (rs : List Range) (rows : List Row) (a : Advice) (log : Logbook) (plan : List ℤ) (budget : ℕ) →

@@ -1,9 +1,10 @@
 -- The first refusal that applies has the smallest number, each refusal stands once in the table, and a return undoes its mark.
-use Rattle.std.proofs.Common.{◌≡◌, ℕ, ◌≤◌, Bool, true, false, List, [], ◌∷◌, length, Err, sym, refl, ap, ◌∙◌, subst, le_trans, arith}
+use Rattle.std.proofs.Common.{◌≡◌, ℕ, ◌≤◌, Bool, true, false, List, [], ◌∷◌, length, Err, refl, ap, subst, le_trans, arith}
 use Rattle.std.specs.List.{AllByRecursion}
 use Rattle.std.proofs.ByRecursion.{All-weaker}
 use Rattle.std.proofs.lemmas.List.{take_at}
 use Rattle.std.proofs.lemmas.Bool.Decides.{nat_tests}
+use Rattle.std.proofs.lemmas.Bool.{both_ways}
 use Rattle.calculus.specs.Account.{Test, answered, refused_by}
 use Rattle.calculus.specs.Laws.{rising, EachListed, SmallestFirst, ReturnUndoes}
 use Rattle.calculus.specs.Refusals.{listed}
@@ -41,7 +42,7 @@ smallest_by given true n t ts r e h others k =
       All-weaker _ _ (λ u l _. subst (λ (s : Refusal). number s ≤ number u.refusal) same l) ts
           (rising_all (number t.refusal) ts p.1),
     )
-smallest_by given false n t ts r e h others k = (λ a. let z : true ≡ false = sym a ∙ e in absurd (grind arith), others k)
+smallest_by given false n t ts r e h others k = (λ a. absurd (both_ways _ e a), others k)
 
 smallest : {A : Type 0} (given : A) (n : ℕ) (ts : List Test) (r : Refusal) → rising n ts ≡ true → answered ts given ≡ Err r → LeastOf r ts
 smallest given n [] r h k = tt

@@ -1,10 +1,9 @@
 -- A better bound is the last value that its row still allows.
 use Rattle.std.proofs.Common.{◌≡◌, ℕ, zero, suc, ◌<◌, Bool, true, false, ◌&&◌, eqb, List, [], ◌∷◌, set, ℤ, pos, negsuc, ◌+ℤ◌, ◌-ℤ◌, ◌*ℤ◌, neg_ℤ, ◌≤ℤ◌, ◌<ℤ◌, Some, Decides, Option, sym, refl, ap, ◌∙◌, subst, ⊎_elim, arith, get_or-set_other, eq-eqb, ne_eqb}
-use borrow.Author.Differences.{ints}
-use lib.Signed.{le_z, lt_z}
-use Rattle.std.proofs.lemmas.Int.{by_lt_z}
+use Rattle.std.proofs.lemmas.Int.{by_lt_z, ints}
 use Rattle.std.proofs.lemmas.Bool.{cases_eq}
 use Rattle.std.proofs.lemmas.Bool.Decides.{Decides-and}
+use Rattle.std.specs.Int.Signed.{le_z, lt_z}
 use Rattle.calculus.specs.Advice.{turned_side}
 use Rattle.calculus.specs.Arithmetic.{sum, floor, ceiling}
 use Rattle.calculus.specs.Bounds.{here_or, term, least, without, bounded, better}
@@ -22,12 +21,20 @@ here_same x a b = ap (λ (t : Bool). here_or t a b) (eq-eqb x x refl)
 pub here_other : {Y : Type 0} (x y : ℕ) (a b : Y) → (x ≡ y → ⊥) → here_or (eqb y x) a b ≡ b
 here_other x y a b n = ap (λ (t : Bool). here_or t a b) (ne_eqb y x (λ e. n (sym e)))
 
+-- what holds at x and at each other place holds everywhere
+pub at_each : (P : ℕ → Type 0) (x : ℕ) → P x → ((i : ℕ) → (x ≡ i → ⊥) → P i) → (i : ℕ) → P i
+at_each P x here else i = ⊎_elim (λ (e : x ≡ i). subst P e here) (λ (d : x ≡ i → ⊥). else i d) (cases_eq x i)
+
 pub sum_same : (n : ℕ) (f g : ℕ → ℤ) → ((i : ℕ) → i < n → f i ≡ g i) → sum n f ≡ sum n g
 sum_same zero f g h = refl
 sum_same (suc n) f g h =
     let e = sum_same n f g (λ i l. h i (omega arith)) in
     let d = h n (omega arith) in
     omega (arith, ints)
+
+pub sum_zero : (n : ℕ) (f : ℕ → ℤ) → ((i : ℕ) → f i ≡ pos 0) → sum n f ≡ pos 0
+sum_zero zero f h = refl
+sum_zero (suc n) f h = let e = sum_zero n f h in let d = h n in omega (arith, ints)
 
 -- two sums whose terms differ at most at x
 pub sum_only : (n x : ℕ) (f g : ℕ → ℤ) → x < n → ((i : ℕ) → (x ≡ i → ⊥) → f i ≡ g i) → sum n f +ℤ g x ≡ sum n g +ℤ f x
@@ -48,7 +55,7 @@ coef_without [] x = refl
 coef_without (c ∷ cs) zero = refl
 coef_without (c ∷ cs) (suc x) = coef_without cs x
 
-term_zero : (a lo hi : ℤ) → a ≡ pos 0 → term a lo hi ≡ pos 0
+pub term_zero : (a lo hi : ℤ) → a ≡ pos 0 → term a lo hi ≡ pos 0
 term_zero a lo hi e = ap (λ (z : ℤ). term z lo hi) e ∙ omega (arith, ints)
 
 pub term_at : (a v : ℤ) → term a v v ≡ a *ℤ v
@@ -178,9 +185,9 @@ inside_decides : (s : Side) (lo hi v : ℤ) → Decides (inside s lo hi v) (Near
 inside_decides Low lo hi v = Decides-and _ _ (decides_ltZ lo v) (decides_leZ v hi)
 inside_decides High lo hi v = Decides-and _ _ (decides_leZ lo v) (decides_ltZ v hi)
 
-picked_only : {Y : Type 0} (t : Bool) (y z : Y) → picked t y ≡ Some z → (t ≡ true) × (y ≡ z)
+pub picked_only : {Y : Type 0} (t : Bool) (y z : Y) → picked t y ≡ Some z → (t ≡ true) × (y ≡ z)
 picked_only true y z e = (refl, cc)
-picked_only false y z e = let n : ◌≡◌ {A = ℕ} 0 1 = cc in absurd (omega arith)
+picked_only false y z e = absurd cc
 
 module _ (lo hi w v : ℤ) where
   offered_found : (s s' : Side) → offered s lo hi w ≡ found s' v → Nearer s lo hi v × (s ≡ s') × (w ≡ v)
@@ -195,7 +202,7 @@ module _ (lo hi w v : ℤ) where
       ∙ ap (λ (t : Bool). picked t (record { side = s; value = v })) ((inside_decides s lo hi v).1 h)
 
 two_sides : Low ≡ High → ⊥
-two_sides e = let z : ◌≡◌ {A = ℕ} 0 1 = cc in absurd (omega arith)
+two_sides e = absurd cc
 
 none_last : (s : Side) (rest v : ℤ) → Last s (pos 0) rest v → ⊥
 none_last s rest v f =
@@ -210,7 +217,7 @@ ceiling_floor : (z : ℤ) (k : ℕ) (v : ℤ) → floor (neg_ℤ z) k ≡ neg_�
 ceiling_floor z k v e = omega (arith, ints)
 
 bounded_last : (s : Side) (a rest lo hi v : ℤ) → bounded a rest lo hi ≡ found s v → Nearer s lo hi v × Last s a rest v
-bounded_last s (pos zero) rest lo hi v e = let z : ◌≡◌ {A = ℕ} 0 1 = cc in absurd (omega arith)
+bounded_last s (pos zero) rest lo hi v e = absurd cc
 bounded_last High (pos (suc a)) rest lo hi v e =
     let o = offered_found lo hi (floor (neg_ℤ rest) (suc a)) v High High e in
     (o.0, floor_fits (suc a) rest v (omega arith) o.2)

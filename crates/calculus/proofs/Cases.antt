@@ -1,6 +1,6 @@
 -- The worked cases on reduced forms, doubles, rounding, ranges and a row met to its end, computed.
 use Rattle.std.proofs.Common.{refl}
-use lib.Signed.{le_z_yes}
+use Rattle.std.specs.Int.Signed.{le_z_yes}
 use Rattle.calculus.specs.Arithmetic.{divisor, divisor_within}
 use Rattle.calculus.specs.Worked.{Reduces, Doubles, Rounds, EndsIncluded, MetToTheEnd}
 

@@ -1,14 +1,14 @@
 -- Repair keeps a conflict failing and covered; where a decision cannot be dropped the conflict bounds its unknown better.
 -- Rests on Resolving, Covering and Reasons.
 use Rattle.std.specs.Prelude.{None}
-use Rattle.std.proofs.Common.{◌≡◌, ℕ, zero, suc, ◌<◌, ◌≤◌, Bool, true, false, ◌&&◌, List, [], ◌∷◌, length, ℤ, pos, negsuc, ◌+ℤ◌, ◌*ℤ◌, neg_ℤ, nat_abs, ◌≤ℤ◌, ◌<ℤ◌, Some, sym, refl, ap, ◌∙◌, subst, ⊎_elim, arith}
+use Rattle.std.proofs.Common.{◌≡◌, ℕ, zero, suc, ◌<◌, ◌≤◌, Bool, true, false, ◌&&◌, List, ◌∷◌, length, ℤ, pos, negsuc, ◌+ℤ◌, ◌*ℤ◌, neg_ℤ, nat_abs, ◌≤ℤ◌, ◌<ℤ◌, Some, sym, refl, ap, ◌∙◌, subst, ⊎_elim, arith}
 use Prim.Native.Nat.{◌∣◌}
-use native.Mathlib.Nat.{mod-eq-zero_of_dvd}
-use borrow.Author.Differences.{ints}
-use lib.Signed.{le_z, lt_z}
 use Rattle.std.proofs.ByRecursion.{All-get_or}
-use Rattle.std.proofs.lemmas.Int.{by_lt_z}
+use Rattle.std.proofs.lemmas.List.{get_or_past}
+use Rattle.std.proofs.lemmas.Int.{by_lt_z, ints}
 use Rattle.std.proofs.lemmas.Bool.{cases_lt}
+use Rattle.std.proofs.lemmas.Nat.Gcd.{mod-eq-zero_of_dvd}
+use Rattle.std.specs.Int.Signed.{le_z, lt_z}
 use Rattle.calculus.specs.Advice.{turned_side}
 use Rattle.calculus.specs.Arithmetic.{floor, ceiling, common}
 use Rattle.calculus.specs.Bounds.{Trail, low, high, term, without, bounded, fails_under, better_under}
@@ -24,14 +24,14 @@ use Rattle.calculus.specs.declared.trails.Bound.{Bound}
 use Rattle.calculus.specs.declared.trails.Entry.{Entry}
 use Rattle.calculus.proofs.BetterBounds.{coef_without, least_split}
 use Rattle.calculus.proofs.Covering.{Covered, Complete, Bare, covered_past, covered_sum, complete_covers, covered_cut, bare_plus, bare_cut}
-use Rattle.calculus.proofs.Descending.{under, away}
+use Rattle.calculus.proofs.Descending.{under, away, under_past}
 use Rattle.calculus.proofs.Divisors.{common_divides}
-use Rattle.calculus.proofs.Firm.{Sits, end_own, end_across}
+use Rattle.calculus.proofs.Firm.{Sits, end_own}
 use Rattle.calculus.proofs.Ints.{times_le, times_next, floor_rounds, ceiling_rounds}
 use Rattle.calculus.proofs.Leasts.{coef_plus, cut_fails}
 use Rattle.calculus.proofs.Multiples.{Multiple, multiple_mod, multiple_zero, multiple_floor}
 use Rattle.calculus.proofs.Reasons.{Reason}
-use Rattle.calculus.proofs.Resolving.{match_term, match_cancel, resolve_least, unmatched_least}
+use Rattle.calculus.proofs.Resolving.{by_match, match_term, match_cancel, resolve_least}
 
 -- A conflict over a trail: the row fails, and each of its terms has a matching entry.
 pub record Conflict (rs : List Range) (t : Trail) (j : Row) : Type 0 where
@@ -43,9 +43,7 @@ module _ (rs : List Range) (e : Entry) (t : Trail) (j : Row) (conflict : Conflic
   -- an entry that does not match is taken off
   pub conflict_past : matches e.side (coef j.coefs e.unknown) ≡ false → Conflict rs t j
   conflict_past m =
-      let same : under rs (e ∷ t) j ≡ under rs t j =
-      unmatched_least (length rs) (low rs t) (high rs t) (low rs (e ∷ t)) (high rs (e ∷ t)) e.unknown e.side j
-      (away rs t e Low) (away rs t e High) m (end_across rs t e e.unknown) in
+      let same = under_past rs t e j m in
       let f = conflict.fails in
       record { fails = omega (arith, ints); covered = covered_past e t j conflict.covered m; bare = conflict.bare }
 
@@ -73,13 +71,10 @@ pub conflict_dropped : (rs : List Range) (t : Trail) (j : Row) → fails_under r
     Conflict rs t j
 conflict_dropped rs t j f complete bare =
     record {
-      fails = by_lt_z (pos 0) (under rs t j) (λ h. h) (λ h. absurd (clash f h));
+      fails = omega (arith, ints);
       covered = complete_covers rs t j complete bare;
       bare = bare;
     }
-  where
-    clash : lt_z (pos 0) (under rs t j) ≡ true → under rs t j ≤ℤ pos 0 → ⊥
-    clash f h = omega (arith, ints)
 
 -- ---- reduction
 
@@ -89,13 +84,8 @@ common_multiple cs i =
     ⊎_elim
     (λ (l : i < length cs). multiple_mod (common cs) (coef cs i)
     (mod-eq-zero_of_dvd (common cs) (All-get_or (λ c. common cs ∣ nat_abs c) cs i (pos 0) l (common_divides cs))))
-    (λ (l : length cs ≤ i). subst (Multiple (common cs)) (sym (past cs i l)) (multiple_zero (common cs)))
+    (λ (l : length cs ≤ i). subst (Multiple (common cs)) (sym (get_or_past cs i (pos 0) l)) (multiple_zero (common cs)))
     (cases_lt i (length cs))
-  where
-    past : (cs : List ℤ) (i : ℕ) → length cs ≤ i → coef cs i ≡ pos 0
-    past [] i l = refl
-    past (c ∷ cs) zero l = absurd (omega arith)
-    past (c ∷ cs) (suc i) l = past cs i (omega arith)
 
 pub conflict_cut : (rs : List Range) (t : Trail) (j : Row) → 0 < common j.coefs → Conflict rs t j →
     Conflict rs t (cut (common j.coefs) j)
@@ -148,20 +138,15 @@ bounded_some (negsuc a) rest lo hi l h =
     )
 
 match_worst : (s : Side) (c lo hi : ℤ) → matches s c ≡ true → decided_value (turned_side s) lo hi ≡ worst c lo hi
-match_worst Low (pos zero) lo hi m = absurd (grind arith)
-match_worst Low (pos (suc a)) lo hi m = refl
-match_worst Low (negsuc a) lo hi m = absurd (grind arith)
-match_worst High (pos a) lo hi m = absurd (grind arith)
-match_worst High (negsuc a) lo hi m = refl
+match_worst s c lo hi m =
+    by_match (λ s c. decided_value (turned_side s) lo hi ≡ worst c lo hi) (λ a. refl) (λ a. refl) s c m
 
 -- the rest of a row does not see an entry on the unknown that is left out
 rest_away : (rs : List Range) (e : Entry) (t : Trail) (j : Row) →
     under rs (e ∷ t) (without e.unknown j) ≡ under rs t (without e.unknown j)
 rest_away rs e t j =
-    unmatched_least (length rs) (low rs t) (high rs t) (low rs (e ∷ t)) (high rs (e ∷ t)) e.unknown e.side (without e.unknown j)
-    (away rs t e Low) (away rs t e High) (plain e.side (coef (without e.unknown j).coefs e.unknown)
+    under_past rs t e (without e.unknown j) (plain e.side (coef (without e.unknown j).coefs e.unknown)
     (coef_without j.coefs e.unknown))
-    (end_across rs t e e.unknown)
   where
     plain : (s : Side) (z : ℤ) → z ≡ pos 0 → matches s z ≡ false
     plain Low z e = ap (matches Low) e
@@ -189,7 +174,4 @@ bounds_by true rs e t j m c sits why l =
 -- a decision that may not be dropped: the conflict bounds its unknown better
 pub conflict_bounds : (rs : List Range) (e : Entry) (t : Trail) (j : Row) → Conflict rs (e ∷ t) j → Sits rs t e → e.cause ≡ None →
     fails_under rs t j ≡ false → (b : Bound) × (better_under rs t j e.unknown ≡ Some b)
-conflict_bounds rs e t j c sits why f = bounds_by _ rs e t j refl c sits why (not_above (under rs t j) f)
-  where
-    not_above : (z : ℤ) → lt_z (pos 0) z ≡ false → z ≤ℤ pos 0
-    not_above z h = omega (arith, ints)
+conflict_bounds rs e t j c sits why f = bounds_by _ rs e t j refl c sits why (omega (arith, ints))

@@ -1,20 +1,20 @@
 -- Covered rows: each of their terms has an entry on the trail that matches it. What keeps a row covered as entries are read or taken off.
-use Rattle.std.proofs.Common.{◌≡◌, ℕ, zero, suc, ◌<◌, ◌≤◌, Bool, true, false, ◌&&◌, ◌||◌, eqb, ◌⊎◌, List, [], ◌∷◌, length, ℤ, pos, negsuc, ◌+ℤ◌, ◌*ℤ◌, ◌≤ℤ◌, ◌<ℤ◌, sym, refl, ap, ◌∙◌, subst, inl, inr, ⊎_elim, arith, ne_eqb}
-use borrow.Author.Differences.{ints}
-use Rattle.std.proofs.lemmas.Int.{by_lt_z}
-use Rattle.std.proofs.lemmas.Bool.{cases_eq, cases_lt}
+use Rattle.std.proofs.Common.{◌≡◌, ℕ, zero, suc, ◌<◌, ◌≤◌, Bool, true, false, ◌||◌, ◌⊎◌, List, [], ◌∷◌, length, ℤ, pos, negsuc, ◌+ℤ◌, ◌*ℤ◌, ◌≤ℤ◌, ◌<ℤ◌, sym, refl, ap, ◌∙◌, inl, inr, ⊎_elim, arith, ne_eqb}
+use Rattle.std.proofs.lemmas.Int.{by_lt_z, ints}
+use Rattle.std.proofs.lemmas.Bool.{cases_eq, cases_lt, and_right, or_right, both_ways, false≢true}
 use Rattle.calculus.specs.Arithmetic.{floor}
-use Rattle.calculus.specs.Bounds.{Trail, same_side, on, without}
+use Rattle.calculus.specs.Bounds.{Trail, on, without}
 use Rattle.calculus.specs.Rows.{Row, coef, cut}
 use Rattle.calculus.specs.Tightening.{plus, matches}
 use Rattle.calculus.specs.declared.ranges.Range.{Range}
 use Rattle.calculus.specs.declared.sides.Side.{Side}
 use Rattle.calculus.specs.declared.sides.Side.TheVariants.{Low, High}
 use Rattle.calculus.specs.declared.trails.Entry.{Entry}
-use Rattle.calculus.proofs.BetterBounds.{coef_without}
-use Rattle.calculus.proofs.Ints.{mul_neg, times_le, floor_times}
-use Rattle.calculus.proofs.Leasts.{coef_plus, coef_cut, coef_else}
-use Rattle.calculus.proofs.Resolving.{toward}
+use Rattle.calculus.proofs.BetterBounds.{at_each, coef_without}
+use Rattle.calculus.proofs.Firm.{on_is}
+use Rattle.calculus.proofs.Ints.{mul_neg, times_le}
+use Rattle.calculus.proofs.Leasts.{coef_plus, floor_zero, coef_cut, coef_else}
+use Rattle.calculus.proofs.Resolving.{toward, by_match}
 
 -- a trail has an entry on y of side s
 abbrev pub has : Side → ℕ → Trail → Bool
@@ -40,11 +40,7 @@ Bare n r = (y : ℕ) → n ≤ y → coef r.coefs y ≡ pos 0
 -- ---- matching by the sign
 
 pub matches_to : (s : Side) (z : ℤ) → matches s z ≡ true → pos 0 <ℤ toward s z
-matches_to Low (pos zero) h = absurd (grind arith)
-matches_to Low (pos (suc a)) h = omega (arith, ints)
-matches_to Low (negsuc a) h = absurd (grind arith)
-matches_to High (pos a) h = absurd (grind arith)
-matches_to High (negsuc a) h = omega (arith, ints)
+matches_to s z h = by_match (λ s z. pos 0 <ℤ toward s z) (λ a. omega (arith, ints)) (λ a. omega (arith, ints)) s z h
 
 pub matches_from : (s : Side) (z : ℤ) → pos 0 <ℤ toward s z → matches s z ≡ true
 matches_from Low (pos zero) h = absurd (omega (arith, ints))
@@ -97,42 +93,20 @@ matches_divided s k c l e h =
 
 -- an entry on another unknown does not count
 on_else : (s : Side) (y : ℕ) (e : Entry) → (e.unknown ≡ y → ⊥) → on s y e ≡ false
-on_else s y e d = ap (λ (b : Bool). same_side s e.side && b) (ne_eqb y e.unknown (λ h. d (sym h))) ∙ and_false (same_side s e.side)
-  where
-    and_false : (b : Bool) → (b && false) ≡ false
-    and_false true = refl
-    and_false false = refl
+on_else s y e d = and_right _ _ (ne_eqb y e.unknown (λ h. d (sym h)))
 
 pub has_else : (s : Side) (y : ℕ) (e : Entry) (t : Trail) → (e.unknown ≡ y → ⊥) → has s y (e ∷ t) ≡ true → has s y t ≡ true
 has_else s y e t d h = sym (ap (λ (b : Bool). b || has s y t) (on_else s y e d)) ∙ h
 
-same_side_is : (s r : Side) → same_side s r ≡ true → r ≡ s
-same_side_is Low Low h = refl
-same_side_is Low High h = absurd (grind arith)
-same_side_is High Low h = absurd (grind arith)
-same_side_is High High h = refl
-
--- an entry that counts is of that side
-on_is : (s : Side) (y : ℕ) (e : Entry) → on s y e ≡ true → e.side ≡ s
-on_is s y e h = same_side_is s e.side (first (same_side s e.side) (eqb y e.unknown) h)
-  where
-    first : (a b : Bool) → (a && b) ≡ true → a ≡ true
-    first true b h = refl
-    first false b h = absurd (grind arith)
-
 -- an entry below counts, or the top one does
 has_by : (b : Bool) (s : Side) (y : ℕ) (e : Entry) (t : Trail) → on s y e ≡ b → (b || has s y t) ≡ true →
     (e.side ≡ s) ⊎ (has s y t ≡ true)
-has_by true s y e t h k = inl (on_is s y e h)
+has_by true s y e t h k = inl (sym (on_is s y e h).0)
 has_by false s y e t h k = inr k
 
 -- more entries, more that counts
 pub has_more : (s : Side) (y : ℕ) (e : Entry) (t : Trail) → has s y t ≡ true → has s y (e ∷ t) ≡ true
-has_more s y e t h = ap (λ (b : Bool). on s y e || b) h ∙ or_true (on s y e)
-  where
-    or_true : (b : Bool) → (b || true) ≡ true
-    or_true true = refl
-    or_true false = refl
+has_more s y e t h = or_right (on s y e) _ h
 
 -- ---- covered rows
 
@@ -142,7 +116,7 @@ pub covered_past : (e : Entry) (t : Trail) (r : Row) → Covered (e ∷ t) r →
 covered_past e t r h m s y k =
     ⊎_elim
     (λ (d : e.unknown ≡ y). ⊎_elim
-    (λ (same : e.side ≡ s). let z : true ≡ false = sym k ∙ sym (λ i. matches (same i) (coef r.coefs (d i))) ∙ m in absurd (grind arith))
+    (λ (same : e.side ≡ s). absurd (both_ways _ m ((λ i. matches (same i) (coef r.coefs (d i))) ∙ k)))
     (λ (g : has s y t ≡ true). g)
     (has_by (on s y e) s y e t refl (h s y k)))
     (λ (d : e.unknown ≡ y → ⊥). has_else s y e t d (h s y k))
@@ -177,8 +151,8 @@ covered_cut t k r l div h s y m =
 -- a row covered by no entry at all has no coefficient
 pub covered_none : (r : Row) → Covered [] r → (y : ℕ) → coef r.coefs y ≡ pos 0
 covered_none r h y =
-    matches_none (coef r.coefs y) (λ m. let z : false ≡ true = h Low y m in absurd (grind arith))
-    (λ m. let z : false ≡ true = h High y m in absurd (grind arith))
+    matches_none (coef r.coefs y) (λ m. false≢true (h Low y m))
+    (λ m. false≢true (h High y m))
 
 -- ---- rows without coefficients past the unknowns
 
@@ -187,11 +161,8 @@ bare_plus n p m q a b y l = let e = coef_plus p m q y in let c = a y l in let d 
 
 pub bare_without : (n x : ℕ) (r : Row) → Bare n r → Bare n (without x r)
 bare_without n x r h y l =
-    ⊎_elim (λ (d : x ≡ y). subst (λ (z : ℕ). coef (without x r).coefs z ≡ pos 0) d (coef_without r.coefs x))
-    (λ (d : x ≡ y → ⊥). coef_else r.coefs x y d ∙ h y l) (cases_eq x y)
+    at_each (λ z. n ≤ z → coef (without x r).coefs z ≡ pos 0) x (λ k. coef_without r.coefs x)
+    (λ i d k. coef_else r.coefs x i d ∙ h i k) y l
 
 pub bare_cut : (n k : ℕ) (r : Row) → 0 < k → Bare n r → Bare n (cut k r)
-bare_cut n k r p h y l = coef_cut k r y p ∙ ap (λ (z : ℤ). floor z k) (h y l) ∙ floor_nought k p
-  where
-    floor_nought : (k : ℕ) → 0 < k → floor (pos 0) k ≡ pos 0
-    floor_nought k p = ap (λ (z : ℤ). floor z k) (let z : pos 0 ≡ pos k *ℤ pos 0 = omega (arith, ints) in z) ∙ floor_times (pos 0) k p
+bare_cut n k r p h y l = coef_cut k r y p ∙ ap (λ (z : ℤ). floor z k) (h y l) ∙ floor_zero k p

@@ -1,14 +1,15 @@
 -- The whole day: the account keeps its rows within their limits, so every promise holds at every call.
-use Rattle.std.proofs.Common.{◌≡◌, ℕ, zero, suc, ◌<◌, ◌≤◌, Bool, true, false, not, ◌||◌, eqb, leb, ◌⊎◌, List, [], ◌∷◌, ◌++◌, length, ℤ, None, Ok, Err, Option, Result, sym, refl, ap, ◌∙◌, subst, inl, inr, arith}
+use Rattle.std.proofs.Common.{◌≡◌, ℕ, zero, suc, ◌<◌, ◌≤◌, Bool, true, false, not, ◌||◌, eqb, leb, ◌⊎◌, List, [], ◌∷◌, ◌++◌, length, ℤ, None, Ok, Err, Result, sym, refl, ap, ◌∙◌, subst, inl, inr, arith}
 use Rattle.std.specs.List.{AllByRecursion}
 use Rattle.std.proofs.ByRecursion.{All-append, All-take}
 use Rattle.std.proofs.lemmas.List.{length-append, length-take}
+use Rattle.std.proofs.lemmas.Bool.{or_parts, not-false, eqb-true}
 use Rattle.std.proofs.lemmas.Bool.Decides.{nat_tests}
 use Rattle.calculus.specs.Account.{Account, bad_range, when, answered, left, heavy, settled, standing, with_row, added}
 use Rattle.calculus.specs.Account.{mark_answer, with_mark, marked, return_answer, returned_to, returned}
 use Rattle.calculus.specs.Advice.{Advice, Advises}
 use Rattle.calculus.specs.Arithmetic.{near}
-use Rattle.calculus.specs.Checking.{check_end, fit_or}
+use Rattle.calculus.specs.Checking.{check_end, wrong_from, closes}
 use Rattle.calculus.specs.Days.{Call, to_add, to_mark, to_return, to_run, to_check, Answer, checked, Event, answer_due, account_after}
 use Rattle.calculus.specs.Days.{CallsLead, LeadsOnly, AccountFits}
 use Rattle.calculus.specs.Days.{Leads, Fair, RunKept, Promised, before, event_at, DayRight}
@@ -20,7 +21,6 @@ use Rattle.calculus.specs.Rows.{Standing, doubled}
 use Rattle.calculus.specs.Runs.{plan_after, Left, left_by, begin_answer, rows_of, run_end, figure}
 use Rattle.calculus.specs.declared.endings.Ending.{Ending}
 use Rattle.calculus.specs.declared.endings.Ending.TheVariants.{Plan, NoPlan, Refused}
-use Rattle.calculus.specs.declared.endings.Objection.{Objection}
 use Rattle.calculus.specs.declared.ranges.Range.{Range}
 use Rattle.calculus.specs.declared.refusals.Refusal.{Refusal}
 use Rattle.calculus.specs.declared.refusals.Refusal.TheVariants.{Shape, Range as BadRange, Weight, Label, Double, Full, List as NoList}
@@ -30,7 +30,7 @@ use Rattle.calculus.proofs.Counts.{spent_right, figure_enough}
 use Rattle.calculus.proofs.Nones.{none_right}
 use Rattle.calculus.proofs.Plans.{plan_right}
 use Rattle.calculus.proofs.Running.{run_answers}
-use Rattle.calculus.proofs.SoundLogs.{accepted_right}
+use Rattle.calculus.proofs.SoundLogs.{accepted_right, found_none}
 
 -- ---- the account keeps its rows within their limits
 
@@ -66,14 +66,6 @@ added_by false false false false false rs a s f h k n m =
         small = All-append _ a.rows (s ∷ []) f.rows.small (n refl, tt);
       };
     }
-
-or_parts : (a b : Bool) → (a || b) ≡ false → (a ≡ false) × (b ≡ false)
-or_parts true b h = absurd (grind arith)
-or_parts false b h = (refl, h)
-
-not-false : (b : Bool) → not b ≡ false → b ≡ true
-not-false true h = refl
-not-false false h = absurd (grind arith)
 
 add_fits : (rs : List Range) (a : Account) (label : ℕ) (cs : List ℤ) (k : ℤ) → Fits rs a → Fits rs (added a label cs k)
 add_fits rs a label cs k f =
@@ -175,22 +167,10 @@ abbrev Six : Ending → Type 0
 Six e = OneOf (Plan ∷ NoPlan ∷ Refused Spent ∷ Refused Long ∷ Refused Wide ∷ Refused Log ∷ []) e
 
 not_list : (e : Ending) → Six e → e ≡ Refused NoList → ⊥
-not_list e (inl h) k = let z : ◌≡◌ {A = ℕ} 0 1 = cc in absurd (omega arith)
-not_list e (inr (inl h)) k = let z : ◌≡◌ {A = ℕ} 0 1 = cc in absurd (omega arith)
-not_list e (inr (inr (inl h))) k = let z : ◌≡◌ {A = ℕ} 0 1 = cc in absurd (omega arith)
-not_list e (inr (inr (inr (inl h)))) k = let z : ◌≡◌ {A = ℕ} 0 1 = cc in absurd (omega arith)
-not_list e (inr (inr (inr (inr (inl h))))) k = let z : ◌≡◌ {A = ℕ} 0 1 = cc in absurd (omega arith)
-not_list e (inr (inr (inr (inr (inr (inl h)))))) k = let z : ◌≡◌ {A = ℕ} 0 1 = cc in absurd (omega arith)
-not_list e (inr (inr (inr (inr (inr (inr h)))))) k = h
+not_list e h k = grind arith
 
 not_misfit : (e : Ending) → Six e → e ≡ Refused Misfit → ⊥
-not_misfit e (inl h) k = let z : ◌≡◌ {A = ℕ} 0 1 = cc in absurd (omega arith)
-not_misfit e (inr (inl h)) k = let z : ◌≡◌ {A = ℕ} 0 1 = cc in absurd (omega arith)
-not_misfit e (inr (inr (inl h))) k = let z : ◌≡◌ {A = ℕ} 0 1 = cc in absurd (omega arith)
-not_misfit e (inr (inr (inr (inl h)))) k = let z : ◌≡◌ {A = ℕ} 0 1 = cc in absurd (omega arith)
-not_misfit e (inr (inr (inr (inr (inl h))))) k = let z : ◌≡◌ {A = ℕ} 0 1 = cc in absurd (omega arith)
-not_misfit e (inr (inr (inr (inr (inr (inl h)))))) k = let z : ◌≡◌ {A = ℕ} 0 1 = cc in absurd (omega arith)
-not_misfit e (inr (inr (inr (inr (inr (inr h)))))) k = h
+not_misfit e h k = grind arith
 
 -- everything as found, and no move
 abbrev Found : List ℤ → Advice → Logbook → Left → Type 0
@@ -205,11 +185,9 @@ found_by (Ok u) rs rows a log plan budget f h e = absurd (h refl e)
 
 -- a check that accepts is of a log for as many unknowns
 accepted_unknowns : (rs : List Range) (rows : List Standing) (log : Logbook) → check_end rs rows log ≡ None → log.unknowns ≡ length rs
-accepted_unknowns rs rows log h = by (eqb log.unknowns (length rs)) _ refl h
-  where
-    by : (b : Bool) (lines : Option Objection) → eqb log.unknowns (length rs) ≡ b → fit_or b lines ≡ None → log.unknowns ≡ length rs
-    by true lines e h = grind (arith, nat_tests)
-    by false lines e h = let z : ◌≡◌ {A = ℕ} 0 1 = cc in absurd (omega arith)
+accepted_unknowns rs rows log h =
+    eqb-true log.unknowns (length rs)
+    (found_none (eqb log.unknowns (length rs)) (wrong_from rs (rows_of rows) [] log.lines) (closes log.lines) (length log.lines) h).0
 
 -- a check looks at nothing else of a log
 same_check : (rs : List Range) (rows : List Standing) (log again : Logbook) → again.unknowns ≡ log.unknowns → again.lines ≡ log.lines →

@@ -1,9 +1,7 @@
 -- Tightening's invariant while the trail is read downwards: the bound of the row is kept, and what is set aside divides.
 -- One lemma for each of the three kinds of entry. Rests on Resolving, Covering, Reasons and Multiples.
-use Rattle.std.proofs.Common.{◌≡◌, ℕ, ◌<◌, true, false, eqb, List, ◌∷◌, length, ℤ, pos, ◌+ℤ◌, ◌*ℤ◌, nat_abs, ◌≤ℤ◌, sym, refl, ap, ◌∙◌, subst, ⊎_elim, arith}
-use borrow.Author.Differences.{ints}
-use lib.IntN.{*ℤ_comm}
-use Rattle.std.proofs.lemmas.Bool.{cases_eq}
+use Rattle.std.proofs.Common.{◌≡◌, ℕ, ◌<◌, true, false, eqb, List, ◌∷◌, length, ℤ, pos, ◌+ℤ◌, ◌*ℤ◌, nat_abs, ◌≤ℤ◌, sym, refl, ap, ◌∙◌, subst, arith}
+use Rattle.std.proofs.lemmas.Int.{ints}
 use Rattle.calculus.specs.Advice.{turned_side}
 use Rattle.calculus.specs.Arithmetic.{sum}
 use Rattle.calculus.specs.Bounds.{Trail, here_or, low, high, term, least, without}
@@ -13,10 +11,10 @@ use Rattle.calculus.specs.declared.ranges.Range.{Range}
 use Rattle.calculus.specs.declared.sides.Side.{Side}
 use Rattle.calculus.specs.declared.sides.Side.TheVariants.{Low, High}
 use Rattle.calculus.specs.declared.trails.Entry.{Entry}
-use Rattle.calculus.proofs.BetterBounds.{here_same, here_other, sum_same, sum_only, coef_without, term_at}
+use Rattle.calculus.proofs.BetterBounds.{at_each, here_same, here_other, sum_same, sum_only, coef_without, term_at}
 use Rattle.calculus.proofs.Covering.{Covered, CoveredBut, Bare, covered_past, covered_sum}
 use Rattle.calculus.proofs.Firm.{end_at, end_own, end_across, end_other}
-use Rattle.calculus.proofs.Ints.{distrib}
+use Rattle.calculus.proofs.Ints.{times_sum}
 use Rattle.calculus.proofs.Leasts.{coef_plus, coef_else}
 use Rattle.calculus.proofs.Multiples.{Multiple, multiple_plus}
 use Rattle.calculus.proofs.Resolving.{unit, Tight, SameBut, match_cancel, resolve_least, unmatched_least, aside_least}
@@ -55,12 +53,10 @@ same_plus p k q new h i = h.coefs i ∙ sym (coef_plus p k q i)
 -- without x too
 same_without : (x : ℕ) (p q : Row) → ((i : ℕ) → coef p.coefs i ≡ coef q.coefs i) →
     (i : ℕ) → coef (without x p).coefs i ≡ coef (without x q).coefs i
-same_without x p q h i =
-    ⊎_elim
-    (λ (e : x ≡ i). subst (λ (y : ℕ). coef (without x p).coefs y ≡ coef (without x q).coefs y) e
-    (coef_without p.coefs x ∙ sym (coef_without q.coefs x)))
-    (λ (d : x ≡ i → ⊥). coef_else p.coefs x i d ∙ h i ∙ sym (coef_else q.coefs x i d))
-    (cases_eq x i)
+same_without x p q h =
+    at_each (λ (y : ℕ). coef (without x p).coefs y ≡ coef (without x q).coefs y) x
+    (coef_without p.coefs x ∙ sym (coef_without q.coefs x))
+    (λ i d. coef_else p.coefs x i d ∙ h i ∙ sym (coef_else q.coefs x i d))
 
 -- Tightening of r for x by d under the whole trail, with the trail t still to be read.
 pub record Kept (rs : List Range) (whole : Trail) (x d : ℕ) (r : Row) (t : Trail) (row part : Row) : Type 0 where
@@ -75,14 +71,6 @@ pub record Kept (rs : List Range) (whole : Trail) (x d : ℕ) (r : Row) (t : Tra
   pub bound : under rs whole r ≤ℤ (aside_sum rs whole aside +ℤ under rs t part)
   pub bare : Bare (length rs) row
 
-times_sum : (a b v : ℤ) → (a +ℤ b) *ℤ v ≡ a *ℤ v +ℤ b *ℤ v
-times_sum a b v =
-    let c = *ℤ_comm (a +ℤ b) v in
-    let d = distrib v a b in
-    let e = *ℤ_comm v a in
-    let f = *ℤ_comm v b in
-    omega (arith, ints)
-
 bound_arith : (all old part more g f av nv pv rest rest' : ℤ) → all ≤ℤ (old +ℤ part) → more +ℤ g ≡ old +ℤ f → f ≡ av +ℤ nv → g ≡ av →
     pv ≡ nv → rest ≡ rest' → part ≤ℤ (pv +ℤ rest) → all ≤ℤ (more +ℤ rest')
 bound_arith all old part more g f av nv pv rest rest' b s fi gi at r m = omega (arith, ints)
@@ -91,14 +79,19 @@ bound_arith all old part more g f av nv pv rest rest' b s fi gi at r m = omega (
 pub away : (rs : List Range) (t : Trail) (e : Entry) (s : Side) → SameBut e.unknown (end_at rs (e ∷ t) s) (end_at rs t s)
 away rs t e s i d = end_other rs t e s i (λ h. d (sym h))
 
+-- an entry that does not match leaves the least value as it is
+pub under_past : (rs : List Range) (t : Trail) (e : Entry) (r : Row) → matches e.side (coef r.coefs e.unknown) ≡ false →
+    under rs (e ∷ t) r ≡ under rs t r
+under_past rs t e r m =
+    unmatched_least (length rs) (low rs t) (high rs t) (low rs (e ∷ t)) (high rs (e ∷ t)) e.unknown e.side r (away rs t e Low)
+    (away rs t e High) m (end_across rs t e e.unknown)
+
 module _ (rs : List Range) (whole : Trail) (x d : ℕ) (r : Row) (e : Entry) (t : Trail) (row part : Row)
     (kept : Kept rs whole x d r (e ∷ t) row part) where
   -- an entry that does not match is passed by
   pub kept_past : matches e.side (coef part.coefs e.unknown) ≡ false → Kept rs whole x d r t row part
   kept_past m =
-      let same : under rs (e ∷ t) part ≡ under rs t part =
-      unmatched_least (length rs) (low rs t) (high rs t) (low rs (e ∷ t)) (high rs (e ∷ t)) e.unknown e.side part
-      (away rs t e Low) (away rs t e High) m (end_across rs t e e.unknown) in
+      let same = under_past rs t e part m in
       let b = kept.bound in
       record {
         aside = kept.aside;
@@ -167,18 +160,14 @@ module _ (rs : List Range) (whole : Trail) (x d : ℕ) (r : Row) (e : Entry) (t 
         coef (without y part').coefs i ≡ coef part'.coefs i = λ i n. coef_else part'.coefs y i n in
         record {
           aside = more;
-          splits = λ i. ⊎_elim
-              (λ (h : y ≡ i). subst (λ (z : ℕ). coef row'.coefs z ≡ more z +ℤ coef (without y part').coefs z) h
-              (let a = still y in omega (arith, ints)))
-              (λ (n : y ≡ i → ⊥). let a = still i in let b = else i n in let g = keeps i n in omega (arith, ints))
-              (cases_eq y i);
-          divides = λ i. ⊎_elim
-              (λ (h : y ≡ i). subst (λ (z : ℕ). Multiple d (more z)) h
+          splits = at_each (λ (i : ℕ). coef row'.coefs i ≡ more i +ℤ coef (without y part').coefs i) y
+              (let a = still y in omega (arith, ints))
+              (λ i n. let a = still i in let b = else i n in let g = keeps i n in omega (arith, ints));
+          divides = at_each (λ (i : ℕ). Multiple d (more i)) y
               (subst (Multiple d) (sym at_y)
               (multiple_plus d (kept.aside y) new (kept.divides y)
-              (subst (Multiple d) (sym (parts.coefs y ∙ ap (λ (z : ℤ). c +ℤ pos k *ℤ z) tight.here)) fill))))
-              (λ (n : y ≡ i → ⊥). subst (Multiple d) (sym (else i n)) (kept.divides i))
-              (cases_eq y i);
+              (subst (Multiple d) (sym (parts.coefs y ∙ ap (λ (z : ℤ). c +ℤ pos k *ℤ z) tight.here)) fill)))
+              (λ i n. subst (Multiple d) (sym (else i n)) (kept.divides i));
           own = else x apart ∙ kept.own;
           constant = constants;
           covered = covered_sum e t part k q (without y part') kept.covered covers gone

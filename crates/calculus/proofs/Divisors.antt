@@ -1,59 +1,40 @@
 -- The greatest common divisor: its two equations, and what it divides.
 use Rattle.std.proofs.Common.{◌≡◌, ℕ, zero, suc, ◌%◌, ◌<◌, ◌≤◌, max, List, [], ◌∷◌, ℤ, pos, nat_abs, fold, sym, refl, ap, ◌∙◌, subst, le_refl, not-suc-le-zero, mod-lt, arith}
 use Prim.Native.Nat.{◌∣◌}
-use native.Mathlib.Nat.{dvd_refl, dvd-zero, dvd-mod_iff, dvd_trans, one-dvd}
+use Rattle.std.specs.Int.{IsGcd}
+use Rattle.std.proofs.lemmas.Nat.Gcd.{dvd_refl, dvd-zero, dvd_trans, IsGcd-from_zero, IsGcd-from_mod, same_from_IsGcd}
 use Rattle.std.specs.List.{AllByRecursion}
 use Rattle.std.proofs.ByRecursion.{All-weaker}
+use Rattle.std.proofs.Math.Nat.{one-dvd}
 use Rattle.calculus.specs.Arithmetic.{divisor_within, divisor, common}
 use Rattle.calculus.specs.Rows.{row_divisor}
 
--- any number of calls that is not too small gives the same
-enough : (m n a b : ℕ) → b ≤ m → b ≤ n → divisor_within m a b ≡ divisor_within n a b
+-- calls enough for the second number give the greatest common divisor
+gcd_within : (calls a b : ℕ) → b ≤ calls → IsGcd a b (divisor_within calls a b)
 unfolding divisor_within
-enough zero zero a b h k = refl
-enough zero (suc n) a zero h k = refl
-enough zero (suc n) a (suc b) h k = absurd (not-suc-le-zero h)
-enough (suc m) zero a zero h k = refl
-enough (suc m) zero a (suc b) h k = absurd (not-suc-le-zero k)
-enough (suc m) (suc n) a zero h k = refl
-enough (suc m) (suc n) a (suc b) h k =
+gcd_within zero a zero h = IsGcd-from_zero a 0 refl
+gcd_within zero a (suc b) h = absurd (not-suc-le-zero h)
+gcd_within (suc m) a zero h = IsGcd-from_zero a 0 refl
+gcd_within (suc m) a (suc b) h =
     let l : a % suc b < suc b = mod-lt a (omega arith) in
-    enough m n (suc b) (a % suc b) (omega arith) (omega arith)
+    IsGcd-from_mod a (suc b) _ (gcd_within m (suc b) (a % suc b) (omega arith))
+
+is_gcd : (a b : ℕ) → IsGcd a b (divisor a b)
+unfolding divisor
+is_gcd a b = gcd_within b a b (le_refl b)
 
 pub divisor_zero : (a : ℕ) → divisor a 0 ≡ a
 unfolding divisor divisor_within
 divisor_zero a = refl
 
 pub divisor_step : (a b : ℕ) → 0 < b → divisor a b ≡ divisor b (a % b)
-unfolding divisor divisor_within
-divisor_step a zero h = absurd (omega arith)
-divisor_step a (suc b) h =
-    let l : a % suc b < suc b = mod-lt a (omega arith) in
-    enough b (a % suc b) (suc b) (a % suc b) (omega arith) (le_refl _)
-
-divides_within : (calls a b : ℕ) → b ≤ calls → (divisor_within calls a b ∣ a) × (divisor_within calls a b ∣ b)
-unfolding divisor_within
-divides_within zero a zero h = (dvd_refl a, dvd-zero a)
-divides_within zero a (suc b) h = absurd (not-suc-le-zero h)
-divides_within (suc m) a zero h = (dvd_refl a, dvd-zero a)
-divides_within (suc m) a (suc b) h =
-    let l : a % suc b < suc b = mod-lt a (omega arith) in
-    let both = divides_within m (suc b) (a % suc b) (omega arith) in
-    ((dvd-mod_iff _ {m = a} {n = suc b} both.0).0 both.1, both.0)
+divisor_step a b h = same_from_IsGcd a b _ _ (is_gcd a b) (IsGcd-from_mod a b _ (is_gcd b (a % b)))
 
 pub divides_both : (a b : ℕ) → (divisor a b ∣ a) × (divisor a b ∣ b)
-unfolding divisor
-divides_both a b = divides_within b a b (le_refl b)
-
-greatest_within : (calls d a b : ℕ) → d ∣ a → d ∣ b → d ∣ divisor_within calls a b
-unfolding divisor_within
-greatest_within zero d a b p q = p
-greatest_within (suc m) d a zero p q = p
-greatest_within (suc m) d a (suc b) p q = greatest_within m d (suc b) (a % suc b) q ((dvd-mod_iff d {m = a} {n = suc b} q).1 p)
+divides_both a b = let g = is_gcd a b in (g.0, g.1)
 
 pub greatest : (d a b : ℕ) → d ∣ a → d ∣ b → d ∣ divisor a b
-unfolding divisor
-greatest d a b p q = greatest_within b d a b p q
+greatest d a b p q = (is_gcd a b).2 d p q
 
 -- the common divisor of a list, from a number on
 abbrev onward : ℕ → List ℤ → ℕ

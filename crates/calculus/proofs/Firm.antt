@@ -3,12 +3,11 @@
 -- on what a step without a move leaves of the trail.
 use Rattle.std.specs.Prelude.{None}
 use Rattle.std.proofs.Common.{◌≡◌, ℕ, zero, suc, ◌+◌, ◌<◌, ◌≤◌, Bool, true, false, eqb, ◌⊎◌, List, [], ◌∷◌, length, ℤ, pos, ◌≤ℤ◌, ◌<ℤ◌, Some, sym, refl, ap, ◌∙◌, subst, inl, inr, ⊎_elim, arith}
-use borrow.Author.Differences.{ints}
-use lib.Signed.{lt_z}
 use Rattle.std.specs.List.{AllByRecursion}
 use Rattle.std.proofs.lemmas.List.{get_or_past}
-use Rattle.std.proofs.lemmas.Int.{by_lt_z}
+use Rattle.std.proofs.lemmas.Int.{by_lt_z, ints}
 use Rattle.std.proofs.lemmas.Bool.{and_parts, and_from, and_left, and_right, or_parts, cases_lt, eqb-true, eq-eqb, ne_eqb, false≢true}
+use Rattle.std.specs.Int.Signed.{lt_z}
 use Rattle.calculus.specs.Account.{bad_range}
 use Rattle.calculus.specs.Advice.{Order, Advice, first_open, only_if, choice, turned_side}
 use Rattle.calculus.specs.Bounds.{Trail, same_side, on, here_or, range_at, low, high, lows, highs, row_at, better_under}
@@ -76,7 +75,7 @@ on_is s x e h =
     let p = and_parts (same_side s e.side) (eqb x e.unknown) h in
     (side_same s e.side p.0, eqb-true x e.unknown p.1)
 
-on_own : (e : Entry) → on e.side e.unknown e ≡ true
+pub on_own : (e : Entry) → on e.side e.unknown e ≡ true
 on_own e = and_from _ _ (side_self e.side) (eq-eqb e.unknown e.unknown refl)
 
 module _ (rs : List Range) (t : Trail) (e : Entry) where
@@ -231,8 +230,8 @@ implied_sits rs t x b q l above below = record {
   known = l;
   above = above;
   below = below;
-  unfixed = λ h. let z : ◌≡◌ {A = ℕ} 0 1 = cc in absurd (omega arith);
-  fixes = λ h. let z : ◌≡◌ {A = ℕ} 0 1 = cc in absurd (omega arith);
+  unfixed = λ h. absurd cc;
+  fixes = λ h. absurd cc;
 }
 
 -- the trail at the start is firm
@@ -293,7 +292,7 @@ unfixed_known rs t x h =
 chosen_open : (b : Bool) (o : Order) (ls hs : List ℤ) (x : ℕ) (s : Side) → only_if b (first_open o ls hs) ≡ Some (x, s) →
     coef ls x ≡ coef hs x → ⊥
 chosen_open true o ls hs x s h e = false≢true (sym (open_some o ls hs x s h).1 ∙ (same_number_decides _ _).1 e)
-chosen_open false o ls hs x s h e = let z : ◌≡◌ {A = ℕ} 0 1 = cc in absurd (omega arith)
+chosen_open false o ls hs x s h e = absurd cc
 
 -- what is chosen, by whatever order, is an unknown of the ranges whose low is below its high
 pub choice_room : (rs : List Range) (t : Trail) (o : Order) (x : ℕ) (s : Side) → InOrder rs → Firm rs t →

@@ -1,8 +1,7 @@
 -- Lines that a run writes: each is made from those before it. Rests on Good and Reasons.
-use Rattle.std.proofs.Common.{◌≡◌, ℕ, zero, suc, ◌<◌, ◌≤◌, min, Bool, true, false, ◌&&◌, ltb, leb, List, [], ◌∷◌, ◌++◌, length, take, Ok, Err, sym, refl, ap, ◌∙◌, subst, ⊎_elim, arith}
-use Rattle.std.proofs.lemmas.List.{length-take, get_or-take, length-append, get_or_append_left, get_or_past, get_or_at, take_at}
-use Rattle.std.proofs.lemmas.Bool.{cases_eq, cases_lt}
-use Rattle.std.proofs.lemmas.Bool.Decides.{Decides-ltb}
+use Rattle.std.proofs.Common.{◌≡◌, ℕ, suc, ◌+◌, ◌<◌, ◌≤◌, min, Bool, true, false, ◌&&◌, leb, List, [], ◌∷◌, ◌++◌, length, take, Ok, Err, sym, refl, ap, ◌∙◌, subst, ⊎_elim, arith}
+use Rattle.std.proofs.lemmas.List.{length-take, get_or-take, length-append, get_or_append_left, get_or_past, get_or_at, take_at, take-append-le, take-take}
+use Rattle.std.proofs.lemmas.Bool.{cases_eq, cases_lt, lt-ltb}
 use Rattle.calculus.specs.Checking.{all_divide}
 use Rattle.calculus.specs.Logs.{Line, no_line, line_at, line_row, fields_of, Written, written, written_by}
 use Rattle.calculus.specs.RunLaws.{Grown}
@@ -22,11 +21,6 @@ pub record Sound (rs : List Range) (rows : List Row) (ls : List Line) : Type 0 w
 
 -- ---- one line more
 
-take_front : (q : ℕ) (ls ms : List Line) → q ≤ length ls → take q (ls ++ ms) ≡ take q ls
-take_front zero ls ms h = refl
-take_front (suc q) [] ms h = absurd (omega arith)
-take_front (suc q) (l ∷ ls) ms h = ap (λ (k : List Line). l ∷ k) (take_front q ls ms (omega arith))
-
 pub good_more : (rs : List Range) (rows : List Row) (ls : List Line) (l : Line) → Good rs rows ls → Made rs rows ls l →
     Good rs rows (ls ++ l ∷ [])
 good_more rs rows ls l good made q less =
@@ -35,7 +29,7 @@ good_more rs rows ls l good made q less =
     (λ (e : q ≡ length ls). subst (λ (k : List Line). Made rs rows k (line_at (ls ++ l ∷ []) q)) (sym (take_at ls (l ∷ []) q (sym e)))
     (subst (λ (k : Line). Made rs rows ls k) (sym (get_or_at ls l [] no_line q (sym e))) made))
     (λ (d : q ≡ length ls →
-    ⊥). subst (λ (k : List Line). Made rs rows k (line_at (ls ++ l ∷ []) q)) (sym (take_front q ls (l ∷ []) (omega arith)))
+    ⊥). subst (λ (k : List Line). Made rs rows k (line_at (ls ++ l ∷ []) q)) (sym (take-append-le q ls (l ∷ []) (omega arith)))
     (subst (λ (k : Line). Made rs rows (take q ls) k) (sym (get_or_append_left ls (l ∷ []) no_line q (omega arith))) (good q (omega arith))))
     (cases_eq q (length ls))
 
@@ -59,12 +53,6 @@ sound_more rs rows ls l s made b =
 
 -- ---- a first part of the lines
 
-take_less : (q k : ℕ) (ls : List Line) → q ≤ k → take q (take k ls) ≡ take q ls
-take_less zero k ls h = refl
-take_less (suc q) zero ls h = absurd (omega arith)
-take_less (suc q) (suc k) [] h = refl
-take_less (suc q) (suc k) (l ∷ ls) h = ap (λ (t : List Line). l ∷ t) (take_less q k ls (omega arith))
-
 pub sound_take : (rs : List Range) (rows : List Row) (ls : List Line) (k : ℕ) → Sound rs rows ls → Sound rs rows (take k ls)
 sound_take rs rows ls k s = record { good = good; bare = bare }
   where
@@ -74,7 +62,7 @@ sound_take rs rows ls k s = record { good = good; bare = bare }
     good : Good rs rows (take k ls)
     good q l =
         let e = long in
-        subst (λ (t : List Line). Made rs rows t (line_at (take k ls) q)) (sym (take_less q k ls (omega arith)))
+        subst (λ (t : List Line). Made rs rows t (line_at (take k ls) q)) (sym (take-take q k ls (omega arith)))
         (subst (λ (t : Line). Made rs rows (take q ls) t) (sym (get_or-take k ls q no_line (omega arith))) (s.good q (omega arith)))
 
     bare : (q : ℕ) → Bare (length rs) (line_row (take k ls) q)
@@ -85,15 +73,6 @@ sound_take rs rows ls k s = record { good = good; bare = bare }
         (λ (l : k ≤ q). subst (λ (t : Line). Bare (length rs) t.row) (sym (get_or_past (take k ls) q no_line (omega arith)))
         (λ y less. refl))
         (cases_lt q k)
-
-pub grown_one : (ls : List Line) (l : Line) → Grown ls (ls ++ l ∷ [])
-grown_one ls l = record { rest = l ∷ []; is = refl }
-
-pub last_row : (ls : List Line) (l : Line) → line_row (ls ++ l ∷ []) (length ls) ≡ l.row
-last_row ls l = ap (λ (k : Line). k.row) (get_or_at ls l [] no_line (length ls) refl)
-
-pub last_held : (ls : List Line) (l : Line) → length ls < length (ls ++ l ∷ [])
-last_held ls l = let long = length-append ls (l ∷ []) in omega arith
 
 -- ---- what writing comes to
 
@@ -110,6 +89,28 @@ wrote_by false k r ls = (refl, refl)
 pub wrote : (capacity : ℕ) (k : Kind) (r : Row) (ls : List Line) → Wrote k r ls (written capacity k r ls)
 wrote capacity k r ls = wrote_by (leb capacity (length ls)) k r ls
 
+-- A line that a log takes: the lines stay sound and grow, and it is held as the last of them.
+pub record Entered (rs : List Range) (rows : List Row) (r : Row) (ls : List Line) (q : ℕ) (ms : List Line) : Type 0 where
+  pub sound : Sound rs rows ms
+  pub grown : Grown ls ms
+  pub held : q < length ms
+  pub is : line_row ms q ≡ r
+  pub last : suc q ≡ length ms
+
+pub entered : (rs : List Range) (rows : List Row) (k : Kind) (r : Row) (ls : List Line) (q : ℕ) (ms : List Line) → Sound rs rows ls →
+    Made rs rows ls (record { fields = fields_of k; row = r }) → Bare (length rs) r → Wrote k r ls (Ok q, ms) → Entered rs rows r ls q ms
+entered rs rows k r ls q ms s made bare w =
+    let l : Line = record { fields = fields_of k; row = r } in
+    let at : q ≡ length ls = w.0 in
+    let long : length ms ≡ length ls + 1 = ap length w.1 ∙ length-append ls (l ∷ []) in
+    record {
+      sound = subst (Sound rs rows) (sym w.1) (sound_more rs rows ls l s made bare);
+      grown = record { rest = l ∷ []; is = w.1 };
+      held = omega arith;
+      is = (λ i. line_row (w.1 i) (w.0 i)) ∙ ap (λ (z : Line). z.row) (get_or_at ls l [] no_line (length ls) refl);
+      last = omega arith;
+    }
+
 -- ---- sums and cuts are made
 
 pub sum_made : (rs : List Range) (rows : List Row) (ls : List Line) (row : Row) (line q m : ℕ) → line < length ls →
@@ -119,13 +120,10 @@ sum_made rs rows ls row line q m l e k = record {
   kind = Sum line q 1 m;
   fields = refl;
   there = refl;
-  earlier = λ i. below line l i && (below q k i && true);
+  earlier = λ i. lt-ltb line (length ls) l i && (lt-ltb q (length ls) k i && true);
   is = ap (λ (r : Row). plus r m (line_row ls q)) (sym e) ∙ plus_is_sum (line_row ls line) m (line_row ls q);
   cuts = tt;
 }
-  where
-    below : (q : ℕ) → q < length ls → ltb q (length ls) ≡ true
-    below q l = (Decides-ltb q (length ls)).1 l
 
 pub cut_made : (rs : List Range) (rows : List Row) (ls : List Line) (row : Row) (line k : ℕ) → line < length ls →
     line_row ls line ≡ row → 0 < k →
@@ -134,7 +132,7 @@ cut_made rs rows ls row line k l e p d = record {
   kind = Cut line k;
   fields = refl;
   there = refl;
-  earlier = ap (λ (b : Bool). b && true) ((Decides-ltb line (length ls)).1 l);
+  earlier = ap (λ (b : Bool). b && true) (lt-ltb line (length ls) l);
   is = ap (cut k) (sym e);
   cuts = (p, ap (λ (r : Row). all_divide k r.coefs) e ∙ d);
 }

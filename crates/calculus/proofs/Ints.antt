@@ -1,9 +1,10 @@
 -- Laws of the whole numbers that the library lacks: products, orders, rounding.
-use Rattle.std.proofs.Common.{◌≡◌, ℕ, zero, suc, ◌*◌, ◌/◌, ◌<◌, ℤ, pos, negsuc, ◌+ℤ◌, ◌*ℤ◌, neg_ℤ, ◌≤ℤ◌, ◌<ℤ◌, ap, mod-lt, mul-le-mul_left, div-one, arith}
-use native.Mathlib.Nat.{div-add-mod}
+use Rattle.std.proofs.Common.{◌≡◌, ℕ, zero, suc, ◌*◌, ◌/◌, ◌<◌, ℤ, pos, negsuc, ◌+ℤ◌, ◌*ℤ◌, neg_ℤ, ◌≤ℤ◌, ◌<ℤ◌, ap, ◌∙◌, mod-lt, mul-le-mul_left, div-one, arith}
 use borrow.Author.Differences.{ints, up, down, sum_is_lem, neg_is, product_is, le_out}
-use lib.Signed.{clash_ℤ}
 use Rattle.std.proofs.lemmas.Int.{by_lt_z}
+use Rattle.std.proofs.Math.Nat.{div-add-mod}
+use Rattle.std.proofs.Math.IntN.{*ℤ_comm}
+use Rattle.std.specs.Int.Signed.{clash_ℤ}
 use Rattle.calculus.specs.Arithmetic.{floor, ceiling, sum}
 
 times : (k : ℕ) {a b : ℕ} → a ≡ b → k * a ≡ k * b
@@ -15,6 +16,9 @@ distrib a b c =
     let p = times (up a) s in
     let q = times (down a) s in
     omega (arith, ints)
+
+pub times_sum : (a b c : ℤ) → (a +ℤ b) *ℤ c ≡ a *ℤ c +ℤ b *ℤ c
+times_sum a b c = *ℤ_comm (a +ℤ b) c ∙ distrib c a b ∙ (λ i. *ℤ_comm c a i +ℤ *ℤ_comm c b i)
 
 pub assoc : (a b c : ℤ) → (a *ℤ b) *ℤ c ≡ a *ℤ (b *ℤ c)
 assoc a b c =

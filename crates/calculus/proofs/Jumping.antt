@@ -1,7 +1,7 @@
 -- A decision that may not be dropped: the conflict has a better bound there, on the other side. Rests on the run's invariant.
-use Rattle.std.proofs.Common.{◌≡◌, zero, suc, Bool, true, false, ◌&&◌, List, ◌∷◌, ℤ, pos, negsuc, neg_ℤ, ◌≤ℤ◌, Some, sym, refl, ap, subst, arith}
-use borrow.Author.Differences.{ints}
-use lib.Signed.{le_z, lt_z}
+use Rattle.std.proofs.Common.{◌≡◌, suc, Bool, true, false, ◌&&◌, List, ◌∷◌, ℤ, neg_ℤ, Some, sym, refl, ap, subst, arith}
+use Rattle.std.specs.Int.Signed.{le_z, lt_z}
+use Rattle.std.proofs.lemmas.Int.{ints}
 use Rattle.calculus.specs.Advice.{turned_side}
 use Rattle.calculus.specs.Arithmetic.{floor, ceiling}
 use Rattle.calculus.specs.Bounds.{Trail, low, high, without, bounded, fails_under}
@@ -15,25 +15,24 @@ use Rattle.calculus.specs.declared.sides.Side.{Side}
 use Rattle.calculus.specs.declared.sides.Side.TheVariants.{Low, High}
 use Rattle.calculus.specs.declared.trails.Bound.{Bound}
 use Rattle.calculus.specs.declared.trails.Entry.{Entry}
+use Rattle.calculus.proofs.BetterBounds.{picked_only}
 use Rattle.calculus.proofs.Conflicts.{Conflict, conflict_past, conflict_bounds}
 use Rattle.calculus.proofs.Descending.{under}
 use Rattle.calculus.proofs.Firm.{fit_order}
 use Rattle.calculus.proofs.Keeping.{Repairs, Well}
 use Rattle.calculus.proofs.Nones.{thin_rows}
+use Rattle.calculus.proofs.Resolving.{by_match}
 use Rattle.calculus.proofs.Starting.{run_well}
-use Rattle.calculus.proofs.Tightens.{picked_is}
 
 -- a coefficient that a side matches bounds on the other side
 bound_side : (s : Side) (a rest lo hi : ℤ) (b : Bound) → matches s a ≡ true → bounded a rest lo hi ≡ Some b → b.side ≡ turned_side s
-bound_side Low (pos zero) rest lo hi b m h = absurd (grind arith)
-bound_side Low (pos (suc a)) rest lo hi b m h =
-    ap (λ (z : Bound). z.side) (sym (picked_is (le_z lo (floor (neg_ℤ rest) (suc a)) && lt_z (floor (neg_ℤ rest) (suc a)) hi)
-    (record { side = High; value = floor (neg_ℤ rest) (suc a) }) b h))
-bound_side Low (negsuc a) rest lo hi b m h = absurd (grind arith)
-bound_side High (pos a) rest lo hi b m h = absurd (grind arith)
-bound_side High (negsuc a) rest lo hi b m h =
-    ap (λ (z : Bound). z.side) (sym (picked_is (lt_z lo (ceiling rest (suc a)) && le_z (ceiling rest (suc a)) hi)
-    (record { side = Low; value = ceiling rest (suc a) }) b h))
+bound_side s a rest lo hi b m h =
+    by_match (λ s a. bounded a rest lo hi ≡ Some b → b.side ≡ turned_side s)
+    (λ a h. ap (λ (z : Bound). z.side) (sym (picked_only (le_z lo (floor (neg_ℤ rest) (suc a)) && lt_z (floor (neg_ℤ rest) (suc a)) hi)
+    (record { side = High; value = floor (neg_ℤ rest) (suc a) }) b h).1))
+    (λ a h. ap (λ (z : Bound). z.side) (sym (picked_only (lt_z lo (ceiling rest (suc a)) && le_z (ceiling rest (suc a)) hi)
+    (record { side = Low; value = ceiling rest (suc a) }) b h).1))
+    s a m h
 
 -- the entry matches, or the conflict would fail without it
 matches_by : (v : Bool) (rs : List Range) (e : Entry) (t : Trail) (j : Row) → matches e.side (coef j.coefs e.unknown) ≡ v →
@@ -42,11 +41,7 @@ matches_by true rs e t j m c f = refl
 matches_by false rs e t j m c f =
     let past = conflict_past rs e t j c m in
     let g = past.fails in
-    let z : under rs t j ≤ℤ pos 0 = not_above (under rs t j) f in
     absurd (omega (arith, ints))
-  where
-    not_above : (z : ℤ) → lt_z (pos 0) z ≡ false → z ≤ℤ pos 0
-    not_above z h = omega (arith, ints)
 
 pub jump_found : JumpFound
 jump_found rs rows a capacity budget steps fr fs j line place e t phase tops why passes =

@@ -1,13 +1,14 @@
 -- The invariant of a run with its log, and that each step keeps it: one lemma for each function of the machine.
 -- Rests on Tightens and Conflicts for what the steps do to rows, and on Firm for the trail.
-use Rattle.std.proofs.Common.{◌≡◌, ℕ, suc, ◌-◌, ◌<◌, Bool, true, false, ◌&&◌, ltb, leb, List, [], ◌∷◌, ◌++◌, length, ℤ, pos, nat_abs, ◌<ℤ◌, Some, None, Ok, Err, Option, sym, refl, ap, ◌∙◌, subst, arith}
-use mathlib.Core.Path.{transport}
-use borrow.Author.Differences.{ints}
-use lib.Signed.{lt_z}
-use Rattle.std.proofs.lemmas.List.{length-append}
-use Rattle.std.proofs.lemmas.Bool.Decides.{nat_tests, Decides-ltb}
+use Rattle.std.proofs.Common.{◌≡◌, ℕ, suc, ◌-◌, ◌<◌, Bool, true, false, ◌&&◌, ltb, leb, List, [], ◌∷◌, length, ℤ, pos, nat_abs, ◌<ℤ◌, Some, None, Ok, Err, Option, sym, refl, ap, ◌∙◌, subst, arith}
+use Rattle.std.proofs.lemmas.Bool.{lt-ltb}
+use Rattle.std.proofs.lemmas.List.Recursion.{and_from_places}
+use Rattle.std.proofs.lemmas.Bool.Decides.{nat_tests}
+use Rattle.std.specs.Int.Signed.{lt_z}
+use Rattle.std.proofs.lemmas.Int.{ints}
 use Rattle.calculus.specs.Advice.{Advice, choice, told, turned_side}
 use Rattle.calculus.specs.Arithmetic.{common}
+use Rattle.calculus.specs.Arithmetic.{same_number}
 use Rattle.calculus.specs.Bounds.{Trail, low, high, lows, highs, row_at, fails_under, better_under, conflict, propagating}
 use Rattle.calculus.specs.Checking.{all_zero, contradicts, closes}
 use Rattle.calculus.specs.Logs.{Line, line_row, fields_of, Written}
@@ -32,7 +33,7 @@ use Rattle.calculus.proofs.Covering.{Complete, Bare, has_more, covered_none}
 use Rattle.calculus.proofs.Firm.{InOrder, end_at, Firm, firm_order, better_sits, choice_room, decided_sits}
 use Rattle.calculus.proofs.Firsts.{first_conflict, first_pair}
 use Rattle.calculus.proofs.Good.{Made}
-use Rattle.calculus.proofs.GoodLogs.{Sound, sound_more, grown_one, last_row, last_held, Wrote, wrote, sum_made, cut_made}
+use Rattle.calculus.proofs.GoodLogs.{entered, Sound, Wrote, wrote, sum_made, cut_made}
 use Rattle.calculus.proofs.Multiples.{divide_test}
 use Rattle.calculus.proofs.Reasons.{Reason, Held, Backed, grown_row, grown_long, held_grown, partner_reason}
 use Rattle.calculus.proofs.Reduction.{same_number_decides}
@@ -163,33 +164,25 @@ module _ (c : Context) (o : InOrder c.ranges) (thin : (p : ℕ) → Bare (length
 
   -- ---- repair
 
-  -- the conflict's last line, after one more line
-  stood : (j : Row) (line : ℕ) (l : Line) (ls ms : List Line) → line ≡ length ls → ms ≡ ls ++ l ∷ [] → suc line ≡ length ms
-  stood j line l ls ms e h = ap suc e ∙ last_number ls l ∙ ap (λ (k : List Line). length k) (sym h)
-    where
-      last_number : (ls : List Line) (l : Line) → suc (length ls) ≡ length (ls ++ l ∷ [])
-      last_number ls l = let e = length-append ls (l ∷ []) in omega arith
-
   mended_well : (w : Written) (m : Machine) (t : Trail) (j : Row) (line : ℕ) (ls : List Line) → Backing c t ls → Conflict rs t j →
       line < length ls → line_row ls line ≡ j → 0 < common j.coefs →
       Wrote (Cut line (common j.coefs)) (cut (common j.coefs) j) ls w → WellAt c (after (mended w m t (cut (common j.coefs) j)))
   mended_well (Ok q, ms) m t j line ls back conf held is two w =
       let g = common j.coefs in
-      let l : Line = record { fields = fields_of (Cut line g); row = cut g j } in
       let small = conflict_cut rs t j two conf in
       let made = cut_made rs c.rows ls j line g held is two (divide_test g j.coefs (common_multiple j.coefs)) in
-      let grows : Grown ls ms = subst (Grown ls) (sym w.1) (grown_one ls l) in
+      let last = entered rs c.rows (Cut line g) (cut g j) ls q ms back.sound made small.bare w in
       record {
         backing = record {
           firm = back.firm;
-          held = held_grown grows rs t back.held;
-          sound = subst (Sound rs c.rows) (sym w.1) (sound_more rs c.rows ls l back.sound made small.bare);
-          base = grown_on back.base grows;
+          held = held_grown last.grown rs t back.held;
+          sound = last.sound;
+          base = grown_on back.base last.grown;
         };
         conflict = small;
-        held = transport (λ i. sym w.0 i < length (sym w.1 i)) (last_held ls l);
-        is = (λ i. line_row (w.1 i) (w.0 i)) ∙ last_row ls l;
-        stands = stood j q l ls ms w.0 w.1;
+        held = last.held;
+        is = last.is;
+        stands = last.last;
       }
   mended_well (Err f, ms) m t j line ls back conf held is two w = subst (Sound rs c.rows) (sym w) back.sound
 
@@ -207,22 +200,18 @@ module _ (c : Context) (o : InOrder c.ranges) (thin : (p : ℕ) → Bare (length
       Wrote (Sum line q 1 k) (plus j k r) m.lines w → WellAt c (after (repaired w c m t (plus j k r)))
   repaired_well (Ok new, ms) m t j r line q k back conf reads held is less w =
       let ls = m.lines in
-      let l : Line = record { fields = fields_of (Sum line q 1 k); row = plus j k r } in
-      let made : Made rs c.rows ls l =
+      let made : Made rs c.rows ls (record { fields = fields_of (Sum line q 1 k); row = plus j k r }) =
       subst (λ (z : Row). Made rs c.rows ls (record { fields = fields_of (Sum line q 1 k); row = plus j k z })) reads
       (sum_made rs c.rows ls j line q k held is less) in
-      let grows : Grown ls ms = subst (Grown ls) (sym w.1) (grown_one ls l) in
+      let last = entered rs c.rows (Sum line q 1 k) (plus j k r) ls new ms back.sound made conf.bare w in
       reduced_by_well _ m t (plus j k r) new ms refl
       (record {
         firm = back.firm;
-        held = held_grown grows rs t back.held;
-        sound = subst (Sound rs c.rows) (sym w.1) (sound_more rs c.rows ls l back.sound made conf.bare);
-        base = grown_on back.base grows;
+        held = held_grown last.grown rs t back.held;
+        sound = last.sound;
+        base = grown_on back.base last.grown;
       })
-      conf
-      (transport (λ i. sym w.0 i < length (sym w.1 i)) (last_held ls l))
-      ((λ i. line_row (w.1 i) (w.0 i)) ∙ last_row ls l)
-      (stood (plus j k r) new l ls ms w.0 w.1)
+      conf last.held last.is last.last
   repaired_well (Err f, ms) m t j r line q k back conf reads held is less w = subst (Sound rs c.rows) (sym w) back.sound
 
   -- what is left of the backing below the top entry
@@ -262,8 +251,7 @@ module _ (c : Context) (o : InOrder c.ranges) (thin : (p : ℕ) → Bare (length
       ((b : Bound) × (better_under rs t j e.unknown ≡ Some b)) → WellAt c (after (jump q c m t j line place e.unknown))
   jump_well None m e t j line place found h complete some =
       let clash = sym found ∙ some.1 in
-      let z : ◌≡◌ {A = ℕ} 0 1 = cc in
-      absurd (omega arith)
+      absurd cc
   jump_well (Some b) m e t j line place found h complete some =
       due_by_well _ m (told m.advice e.unknown) t j line e.unknown b (below e t m.lines h.backing) complete
       h.backing.firm.0.known h.conflict.bare found h.held h.is
@@ -293,13 +281,14 @@ module _ (c : Context) (o : InOrder c.ranges) (thin : (p : ℕ) → Bare (length
       (λ i. all_noughts j.coefs none i && above i)
     where
       all_noughts : (cs : List ℤ) → ((i : ℕ) → coef cs i ≡ pos 0) → all_zero cs ≡ true
-      all_noughts [] h = refl
-      all_noughts (z ∷ cs) h = λ i. (same_number_decides z (pos 0)).1 (h 0) i && all_noughts cs (λ i. h (suc i)) i
+      all_noughts cs h =
+          and_from_places all_zero (λ z. same_number z (pos 0)) refl (λ _ _. refl) cs (pos 0)
+          (λ i l. (same_number_decides (coef cs i) (pos 0)).1 (h i))
 
   closes_last : (ls : List Line) (line : ℕ) (j : Row) → suc line ≡ length ls → line_row ls line ≡ j → contradicts j ≡ true →
       closes ls ≡ true
   closes_last ls line j last is h =
-      let some : ltb 0 (length ls) ≡ true = (Decides-ltb 0 (length ls)).1 (omega arith) in
+      let some : ltb 0 (length ls) ≡ true = lt-ltb 0 (length ls) (omega arith) in
       let at : length ls - 1 ≡ line = omega arith in
       (λ i. some i && (ap (λ (q : ℕ). contradicts (line_row ls q)) at ∙ ap contradicts is ∙ h) i)
 
@@ -308,18 +297,16 @@ module _ (c : Context) (o : InOrder c.ranges) (thin : (p : ℕ) → Bare (length
       WellAt c (after (closed w m))
   closed_well (Ok q, ms) m j p line h w =
       let ls = m.lines in
-      let l : Line = record { fields = fields_of (Placed p); row = j } in
-      let made : Made rs c.rows ls l = record {
+      let made : Made rs c.rows ls (record { fields = fields_of (Placed p); row = j }) = record {
         kind = Placed p;
         fields = refl;
-        there = (Decides-ltb p (length c.rows)).1 h.stands.0;
+        there = lt-ltb p (length c.rows) h.stands.0;
         earlier = refl;
         is = h.stands.1;
         cuts = tt;
-      } in (
-        subst (Sound rs c.rows) (sym w.1) (sound_more rs c.rows ls l h.backing.sound made h.conflict.bare),
-        closes_last ms q j (stood j q l ls ms w.0 w.1) ((λ i. line_row (w.1 i) (w.0 i)) ∙ last_row ls l) (closing j h.conflict),
-      )
+      } in
+      let last = entered rs c.rows (Placed p) j ls q ms h.backing.sound made h.conflict.bare w in
+      (last.sound, closes_last ms q j last.last last.is (closing j h.conflict))
   closed_well (Err f, ms) m j p line h w = subst (Sound rs c.rows) (sym w) h.backing.sound
 
   close_well : (place : Option ℕ) (m : Machine) (j : Row) (line : ℕ) → Repairs c [] m.lines j line place →

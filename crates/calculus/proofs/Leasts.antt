@@ -1,15 +1,16 @@
 -- Arithmetic of rows: coefficients of sums and cuts, and what least values do under them. Rests on whole numbers alone.
-use Rattle.std.proofs.Common.{◌≡◌, ℕ, zero, suc, ◌<◌, ◌⊎◌, List, [], ◌∷◌, map, set, ℤ, pos, negsuc, ◌+ℤ◌, ◌*ℤ◌, neg_ℤ, ◌≤ℤ◌, ◌<ℤ◌, sym, refl, ap, ◌∙◌, subst, inl, inr, ⊎_elim, arith, get_or-set_other}
-use borrow.Author.Differences.{ints}
-use lib.IntN.{*ℤ_comm}
-use Rattle.std.proofs.lemmas.Int.{by_lt_z}
+use Rattle.std.proofs.Common.{◌≡◌, ℕ, zero, suc, ◌<◌, ◌⊎◌, List, [], ◌∷◌, map, set, replicate, ℤ, pos, negsuc, ◌+ℤ◌, ◌*ℤ◌, ◌≤ℤ◌, ◌<ℤ◌, sym, refl, ap, ◌∙◌, subst, inl, inr, ⊎_elim, arith, get_or-set_other}
+use Rattle.std.proofs.lemmas.List.{length-replicate, get_or-set_same}
+use Rattle.std.proofs.lemmas.Int.{by_lt_z, ints}
 use Rattle.std.proofs.lemmas.Bool.{cases_eq}
+use Rattle.std.proofs.Math.IntN.{*ℤ-zero}
 use Rattle.calculus.specs.Arithmetic.{sum, floor, ceiling}
 use Rattle.calculus.specs.Bounds.{term, least, without}
 use Rattle.calculus.specs.Rows.{Row, coef, cut}
+use Rattle.calculus.specs.Runs.{lone}
 use Rattle.calculus.specs.Tightening.{added_coefs, plus}
 use Rattle.calculus.proofs.BetterBounds.{least_split}
-use Rattle.calculus.proofs.Ints.{distrib, assoc, times_le, floor_times, ceiling_rounds, sum_times}
+use Rattle.calculus.proofs.Ints.{distrib, times_sum, assoc, times_le, floor_times, ceiling_rounds, sum_times}
 
 -- ---- sums
 
@@ -52,16 +53,13 @@ coef_map f z [] i = sym z
 coef_map f z (c ∷ cs) zero = refl
 coef_map f z (c ∷ cs) (suc i) = coef_map f z cs i
 
-times_zero : (k : ℕ) → pos k *ℤ pos 0 ≡ pos 0
-times_zero k = omega (arith, ints)
-
 pub coef_plus : (p : Row) (m : ℕ) (q : Row) (i : ℕ) → coef (plus p m q).coefs i ≡ coef p.coefs i +ℤ pos m *ℤ coef q.coefs i
 coef_plus p m q i =
     coef_added p.coefs (map (λ c. pos m *ℤ c) q.coefs) i
-    ∙ ap (λ (z : ℤ). coef p.coefs i +ℤ z) (coef_map (λ c. pos m *ℤ c) (times_zero m) q.coefs i)
+    ∙ ap (λ (z : ℤ). coef p.coefs i +ℤ z) (coef_map (λ c. pos m *ℤ c) (*ℤ-zero (pos m)) q.coefs i)
 
-floor_zero : (k : ℕ) → 0 < k → floor (pos 0) k ≡ pos 0
-floor_zero k l = ap (λ (z : ℤ). floor z k) (sym (times_zero k)) ∙ floor_times (pos 0) k l
+pub floor_zero : (k : ℕ) → 0 < k → floor (pos 0) k ≡ pos 0
+floor_zero k l = ap (λ (z : ℤ). floor z k) (sym (*ℤ-zero (pos k))) ∙ floor_times (pos 0) k l
 
 pub coef_cut : (k : ℕ) (r : Row) (i : ℕ) → 0 < k → coef (cut k r).coefs i ≡ floor (coef r.coefs i) k
 coef_cut k r i l = coef_map (λ c. floor c k) (floor_zero k l) r.coefs i
@@ -69,17 +67,25 @@ coef_cut k r i l = coef_map (λ c. floor c k) (floor_zero k l) r.coefs i
 pub coef_else : (cs : List ℤ) (x i : ℕ) → (x ≡ i → ⊥) → coef (set cs x (pos 0)) i ≡ coef cs i
 coef_else cs x i d = get_or-set_other cs x i (pos 0) (pos 0) (λ e. d (sym e))
 
+-- ---- rows with one coefficient
+
+zeros : (n i : ℕ) → coef (replicate n (pos 0)) i ≡ pos 0
+zeros zero i = refl
+zeros (suc n) zero = refl
+zeros (suc n) (suc i) = zeros n i
+
+pub lone_here : (n x : ℕ) (a k : ℤ) → x < n → coef (lone n x a k).coefs x ≡ a
+lone_here n x a k l = let e = length-replicate n (pos 0) in get_or-set_same (replicate n (pos 0)) x a (pos 0) (omega arith)
+
+pub lone_else : (n x i : ℕ) (a k : ℤ) → (x ≡ i → ⊥) → coef (lone n x a k).coefs i ≡ pos 0
+lone_else n x i a k d = get_or-set_other (replicate n (pos 0)) x i a (pos 0) (λ e. d (sym e)) ∙ zeros n i
+
 -- ---- terms
 
 neg_times_le : (a : ℕ) (u v : ℤ) → u ≤ℤ v → (negsuc a *ℤ v) ≤ℤ (negsuc a *ℤ u)
 neg_times_le a u v h =
     let t = times_le (suc a) u v h in
-    let m = turned a u in
-    let n = turned a v in
     omega (arith, ints)
-  where
-    turned : (a : ℕ) (u : ℤ) → negsuc a *ℤ u ≡ neg_ℤ (pos (suc a) *ℤ u)
-    turned a u = omega (arith, ints)
 
 -- the least value of a term is not above its value anywhere between the ends
 pub term_below : (a lo hi v : ℤ) → lo ≤ℤ v → v ≤ℤ hi → term a lo hi ≤ℤ (a *ℤ v)
@@ -97,13 +103,7 @@ term_narrows (pos a) lo hi lo' hi' l h = times_le a lo lo' l
 term_narrows (negsuc a) lo hi lo' hi' l h = neg_times_le a hi' hi h
 
 pub mixed : (a b v : ℤ) (m : ℕ) → (a +ℤ pos m *ℤ b) *ℤ v ≡ a *ℤ v +ℤ pos m *ℤ (b *ℤ v)
-mixed a b v m =
-    let c = *ℤ_comm (a +ℤ pos m *ℤ b) v in
-    let d = distrib v a (pos m *ℤ b) in
-    let e = *ℤ_comm v a in
-    let f = *ℤ_comm v (pos m *ℤ b) in
-    let g = assoc (pos m) b v in
-    omega (arith, ints)
+mixed a b v m = times_sum a (pos m *ℤ b) v ∙ ap (λ (z : ℤ). a *ℤ v +ℤ z) (assoc (pos m) b v)
 
 super_at : (a b lo hi v : ℤ) (m : ℕ) → lo ≤ℤ v → v ≤ℤ hi → term (a +ℤ pos m *ℤ b) lo hi ≡ (a +ℤ pos m *ℤ b) *ℤ v →
     (term a lo hi +ℤ pos m *ℤ term b lo hi) ≤ℤ term (a +ℤ pos m *ℤ b) lo hi
@@ -160,7 +160,7 @@ term_times : (k : ℕ) (a lo hi : ℤ) → term (pos k *ℤ a) lo hi ≡ pos k *
 term_times k (pos a) lo hi = assoc (pos k) (pos a) lo
 term_times k (negsuc a) lo hi =
     let m = times_le k (negsuc a) (pos 0) (omega (arith, ints)) in
-    let z = times_zero k in
+    let z = *ℤ-zero (pos k) in
     term_high (pos k *ℤ negsuc a) lo hi (omega (arith, ints)) ∙ assoc (pos k) (negsuc a) hi
 
 -- a cut that divides loses nothing: k times its least value is not below that of the row
@@ -182,7 +182,7 @@ pub cut_fails : (n : ℕ) (lo hi : ℕ → ℤ) (k : ℕ) (r : Row) → 0 < k �
 cut_fails n lo hi k r l div h =
     let c = cut_least n lo hi k r l div in
     by_lt_z (pos 0) (least n lo hi (cut k r)) (λ g. g)
-    (λ g. let m = times_le k (least n lo hi (cut k r)) (pos 0) g in let z = times_zero k in absurd (omega (arith, ints)))
+    (λ g. let m = times_le k (least n lo hi (cut k r)) (pos 0) g in let z = *ℤ-zero (pos k) in absurd (omega (arith, ints)))
 
 -- a cut of the rest: the least value of the rest, divided and rounded up, is not above that of the cut row's rest
 pub cut_rest : (n : ℕ) (lo hi : ℕ → ℤ) (k : ℕ) (r : Row) (x : ℕ) → 0 < k → x < n → Divided k r →

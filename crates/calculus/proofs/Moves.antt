@@ -1,15 +1,15 @@
 -- What a move is: the number of times a partner is added, what a decision fixes, and each move one of three and only one.
 use Rattle.std.proofs.Common.{◌≡◌, ℕ, zero, suc, ◌+◌, ◌-◌, ◌%◌, ◌<◌, ◌≤◌, Bool, true, false, ltb, leb, ◌⊎◌, List, [], ◌∷◌, map, length, ℤ, pos, negsuc, ◌+ℤ◌, ◌*ℤ◌, nat_abs, Some, None, Ok, Err, Option, sym, refl, ap, ◌∙◌, subst, inl, inr, ⊎_elim, mod-lt, mod-eq_of_lt, arith}
-use native.Mathlib.Nat.{mod-le, mod_self, mod-add-mod, add-mod-mod, dvd_of_mod-eq-zero, mod-eq-zero_of_dvd}
-use borrow.Author.Differences.{ints}
-use Rattle.std.proofs.lemmas.Bool.{cases_lt}
-use Rattle.std.proofs.lemmas.Bool.Decides.{Decides-ltb}
+use Rattle.std.proofs.lemmas.Bool.{ltb-true, lt-ltb, cases_lt}
+use Rattle.std.proofs.lemmas.Nat.Gcd.{dvd_of_mod-eq-zero, mod-eq-zero_of_dvd}
+use Rattle.std.proofs.Math.Nat.{mod-le, mod_self, mod-add-mod, add-mod-mod}
+use Rattle.std.proofs.lemmas.Int.{ints}
 use Rattle.calculus.specs.Advice.{Advice, choice, told}
 use Rattle.calculus.specs.Arithmetic.{common}
 use Rattle.calculus.specs.Bounds.{Trail, low, high, lows, highs, row_at, fails_under, better_under, conflict, propagating}
 use Rattle.calculus.specs.Limits.{most_entries}
 use Rattle.calculus.specs.Logs.{Line, line_row, Written, written}
-use Rattle.calculus.specs.Machines.{Context, Phase, looking, repairing, ended, Machine, free, halted, moved, row_line, decided}
+use Rattle.calculus.specs.Machines.{Context, Phase, looking, repairing, ended, Machine, moved, row_line, decided}
 use Rattle.calculus.specs.Machines.{pushed, due_by, row_due, decide_by, look_choice, look_bound, look_fail}
 use Rattle.calculus.specs.Machines.{mended, reduced_by, repaired, resolved_by, implied_off, jump, decided_off, off}
 use Rattle.calculus.specs.Machines.{closed, close, repair, act_in, act}
@@ -82,13 +82,7 @@ decision_fixes rs t x = (
     other Low y n = (refl, here_other x y (low rs t x) (high rs t y) n)
     other High y n = (here_other x y (high rs t x) (low rs t y) n, refl)
 
--- two steps that come to different things
-free_no_move : {m m' : Machine} → free m ≡ moved m' → ⊥
-free_no_move e = let z : ◌≡◌ {A = ℕ} 0 1 = cc in absurd (omega arith)
-
-halted_no_move : {m m' : Machine} → halted m ≡ moved m' → ⊥
-halted_no_move e = let z : ◌≡◌ {A = ℕ} 0 1 = cc in absurd (omega arith)
-
+-- two moves that come to the same
 same_move : {m m' : Machine} → moved m ≡ moved m' → m ≡ m'
 same_move e = cc
 
@@ -111,11 +105,11 @@ module _ (c : Context) (m m' : Machine) where
     of_pushed l (Ok q, ls) h e =
         subst (Pushed c m a t row line x b) (same_move e)
         (record { reason = q; room = l; tight = h; pushes = refl; advice = refl; on = refl })
-    of_pushed l (Err r, ls) h e = absurd (halted_no_move e)
+    of_pushed l (Err r, ls) h e = absurd cc
 
     of_due : (f : Bool) → ltb (length t) most_entries ≡ f → due_by f c m a t row line x b ≡ moved m' → Pushed c m a t row line x b m'
-    of_due true l e = of_pushed ((Decides-ltb (length t) most_entries).0 l) (tightened c.capacity t row line x m.lines) refl e
-    of_due false l e = absurd (halted_no_move e)
+    of_due true l e = of_pushed (ltb-true (length t) most_entries l) (tightened c.capacity t row line x m.lines) refl e
+    of_due false l e = absurd cc
 
   module _ (looks : m.phase ≡ looking) (calm : conflict c.ranges c.rows m.trail ≡ None) where
     module _ (still : propagating c.ranges c.rows m.trail ≡ None) where
@@ -131,18 +125,18 @@ module _ (c : Context) (m m' : Machine) where
             calm = calm;
             still = still;
             chosen = h;
-            room = (Decides-ltb (length m.trail) most_entries).0 l;
+            room = ltb-true (length m.trail) most_entries l;
             pushes = refl;
             lines = refl;
             advice = refl;
             on = refl;
           })
-      of_decide x s false l h e = absurd (halted_no_move e)
+      of_decide x s false l h e = absurd cc
 
       of_choice : (o : Option (ℕ × Side)) →
           choice m.advice.mind.order (lows c.ranges m.trail) (highs c.ranges m.trail) ≡ o →
           look_choice o c m ≡ moved m' → Decides c m m'
-      of_choice None h e = absurd (free_no_move e)
+      of_choice None h e = absurd cc
       of_choice (Some (x, s)) h e = of_decide x s (ltb (length m.trail) most_entries) refl h e
 
     of_bound : (o : Option (ℕ × (ℕ × Bound))) → propagating c.ranges c.rows m.trail ≡ o → look_bound o c m ≡ moved m' → One c m m'
@@ -166,40 +160,40 @@ module _ (c : Context) (m m' : Machine) where
         inr (inl (of_choice h (choice m.advice.mind.order (lows c.ranges m.trail) (highs c.ranges m.trail)) refl e))
 
   of_fail : m.phase ≡ looking → (o : Option ℕ) → conflict c.ranges c.rows m.trail ≡ o → look_fail o c m ≡ moved m' → One c m m'
-  of_fail looks (Some p) h e = absurd (free_no_move e)
+  of_fail looks (Some p) h e = absurd cc
   of_fail looks None h e = of_bound looks h (propagating c.ranges c.rows m.trail) refl e
 
   -- a step of repair that only changes the conflict, or ends it, is no move
   no_mended : (w : Written) (t : Trail) (j : Row) → mended w m t j ≡ moved m' → ⊥
-  no_mended (Ok line, ls) t j e = free_no_move e
-  no_mended (Err r, ls) t j e = free_no_move e
+  no_mended (Ok line, ls) t j e = cc
+  no_mended (Err r, ls) t j e = cc
 
   no_reduced : (f : Bool) (t : Trail) (j : Row) (line : ℕ) (ls : List Line) → reduced_by f c m t j line ls ≡ moved m' → ⊥
   no_reduced true t j line ls e = no_mended (written c.capacity (Cut line (common j.coefs)) (cut (common j.coefs) j) ls) t _ e
-  no_reduced false t j line ls e = free_no_move e
+  no_reduced false t j line ls e = cc
 
   no_repaired : (w : Written) (t : Trail) (j : Row) → repaired w c m t j ≡ moved m' → ⊥
   no_repaired (Ok line, ls) t j e = no_reduced (leb 2 (common j.coefs)) t j line ls e
-  no_repaired (Err r, ls) t j e = free_no_move e
+  no_repaired (Err r, ls) t j e = cc
 
   no_resolved : (f : Bool) (t : Trail) (j : Row) (line q k : ℕ) → resolved_by f c m t j line q k ≡ moved m' → ⊥
   no_resolved true t j line q k e = no_repaired (written c.capacity (Sum line q 1 k) j m.lines) t j e
-  no_resolved false t j line q k e = free_no_move e
+  no_resolved false t j line q k e = cc
 
   no_implied : (f : Bool) (t : Trail) (j : Row) (line : ℕ) (place : Option ℕ) (q k : ℕ) →
       implied_off f c m t j line place q k ≡ moved m' → ⊥
   no_implied true t j line place q k e =
       let sum = plus j k (line_row m.lines q) in
       no_resolved (fits sum) t sum line q k e
-  no_implied false t j line place q k e = free_no_move e
+  no_implied false t j line place q k e = cc
 
   no_closed : (w : Written) → closed w m ≡ moved m' → ⊥
-  no_closed (Ok q, ls) e = free_no_move e
-  no_closed (Err r, ls) e = free_no_move e
+  no_closed (Ok q, ls) e = cc
+  no_closed (Err r, ls) e = cc
 
   no_close : (o : Option ℕ) (j : Row) (line : ℕ) → close o c m j line ≡ moved m' → ⊥
   no_close (Some p) j line e = no_closed (written c.capacity (Placed p) j m.lines) e
-  no_close None j line e = free_no_move e
+  no_close None j line e = cc
 
   module _ (j : Row) (line : ℕ) (place : Option ℕ) (repairs : m.phase ≡ repairing j line place) where
     module _ (top : Entry) (t : Trail) (tops : m.trail ≡ top ∷ t) where
@@ -227,11 +221,11 @@ module _ (c : Context) (m m' : Machine) where
               advice = r.advice;
               on = r.on;
             }
-        of_jump passes None h e = absurd (free_no_move e)
+        of_jump passes None h e = absurd cc
 
         of_decided : (f : Bool) → fails_under c.ranges t j ≡ f → decided_off f c m t j line place top.unknown ≡ moved m' →
             Backjumps c m m'
-        of_decided true h e = absurd (free_no_move e)
+        of_decided true h e = absurd cc
         of_decided false h e = of_jump h (better_under c.ranges t j top.unknown) refl e
 
       of_off : (k : Option ℕ) → top.cause ≡ k → off k c m top t j line place ≡ moved m' → Backjumps c m m'
@@ -247,22 +241,16 @@ module _ (c : Context) (m m' : Machine) where
   of_phase : (p : Phase) → m.phase ≡ p → act_in p c m ≡ moved m' → One c m m'
   of_phase looking h e = of_fail h (conflict c.ranges c.rows m.trail) refl e
   of_phase (repairing j line place) h e = inr (inr (of_repair j line place h m.trail refl e))
-  of_phase (ended a) h e = absurd (free_no_move e)
+  of_phase (ended a) h e = absurd cc
 
 pub one_of_three : OneOfThree
 one_of_three c m m' e = of_phase c m m' m.phase refl e
 
-none_some : {Y : Type 0} {o : Option Y} {y : Y} → o ≡ None → o ≡ Some y → ⊥
-none_some p q = let z : ◌≡◌ {A = ℕ} 0 1 = cc in absurd (omega arith)
-
-one_phase : {p : Phase} {j : Row} {line : ℕ} {place : Option ℕ} → p ≡ looking → p ≡ repairing j line place → ⊥
-one_phase p q = let z : ◌≡◌ {A = ℕ} 0 1 = cc in absurd (omega arith)
-
 pub never_two : NeverTwo
 never_two c m m' m'' = (
-  λ p d. none_some d.still p.found,
-  λ p b. one_phase p.looks b.repairs,
-  λ d b. one_phase d.looks b.repairs,
+  λ p d. let a = d.still in let b = p.found in cc,
+  λ p b. let a = p.looks in let d = b.repairs in cc,
+  λ d b. let a = d.looks in let p = b.repairs in cc,
 )
 
 -- ---- and each of the three is a move
@@ -271,7 +259,7 @@ never_two c m m' m'' = (
 due_moves : (c : Context) (m m' : Machine) (a : Advice) (t : Trail) (row : Row) (line x : ℕ) (b : Bound) → Pushed c m a t row line x b m' →
     row_due c m a t row line x b ≡ moved m'
 due_moves c m m' a t row line x b p =
-    ap (λ (f : Bool). due_by f c m a t row line x b) ((Decides-ltb (length t) most_entries).1 p.room)
+    ap (λ (f : Bool). due_by f c m a t row line x b) (lt-ltb (length t) most_entries p.room)
     ∙ ap (λ (w : Written). pushed w m a t x b) p.tight
     ∙ (λ i. moved (record { trail = sym p.pushes i; lines = m'.lines; advice = sym p.advice i; phase = sym p.on i }))
 
@@ -289,7 +277,7 @@ decides_move c m m' p =
     ∙ ap (λ (o : Option ℕ). look_fail o c m) p.calm
     ∙ ap (λ (o : Option (ℕ × (ℕ × Bound))). look_bound o c m) p.still
     ∙ ap (λ (o : Option (ℕ × Side)). look_choice o c m) p.chosen
-    ∙ ap (λ (f : Bool). decide_by f c m p.unknown p.side) ((Decides-ltb (length m.trail) most_entries).1 p.room)
+    ∙ ap (λ (f : Bool). decide_by f c m p.unknown p.side) (lt-ltb (length m.trail) most_entries p.room)
     ∙ (λ i. moved (record { trail = sym p.pushes i; lines = sym p.lines i; advice = sym p.advice i; phase = sym p.on i }))
 
 backjumps_move : (c : Context) (m m' : Machine) → Backjumps c m m' → act c m ≡ moved m'

@@ -1,8 +1,10 @@
 -- Multiples of a number among the whole numbers, by remainder and by quotient.
-use Rattle.std.proofs.Common.{◌≡◌, ℕ, zero, suc, ◌+◌, ◌*◌, ◌/◌, ◌%◌, ◌<◌, Bool, true, false, ◌&&◌, eqb, List, [], ◌∷◌, ℤ, pos, negsuc, ◌+ℤ◌, ◌*ℤ◌, neg_ℤ, nat_abs, sym, refl, ap, ◌∙◌, arith, eq-eqb}
-use native.Mathlib.Nat.{div-add-mod, mul-mod_right}
-use borrow.Author.Differences.{ints}
+use Rattle.std.proofs.Common.{◌≡◌, ℕ, ◌+◌, ◌%◌, ◌<◌, Bool, true, false, eqb, List, ℤ, pos, ◌+ℤ◌, ◌*ℤ◌, nat_abs, sym, refl, ap, ◌∙◌, arith, eq-eqb}
 use Rattle.std.proofs.lemmas.Bool.Decides.{nat_tests}
+use Rattle.std.proofs.lemmas.List.Recursion.{and_from_places}
+use Rattle.std.proofs.lemmas.Int.{unsigned_abs-mul, ints}
+use Rattle.std.proofs.lemmas.Nat.Gcd.{dvd_of_mod-eq-zero}
+use Rattle.std.proofs.Math.Nat.{mul-mod_right}
 use Rattle.calculus.specs.Advice.{turned_side}
 use Rattle.calculus.specs.Arithmetic.{floor}
 use Rattle.calculus.specs.Bounds.{here_or}
@@ -10,10 +12,10 @@ use Rattle.calculus.specs.Checking.{all_divide}
 use Rattle.calculus.specs.Rows.{coef}
 use Rattle.calculus.specs.Tightening.{matches, lacking, left_open}
 use Rattle.calculus.specs.declared.sides.Side.{Side}
-use Rattle.calculus.specs.declared.sides.Side.TheVariants.{Low, High}
-use Rattle.calculus.proofs.Ints.{distrib, mul_neg, floor_times}
+use Rattle.calculus.proofs.Ints.{distrib, floor_times}
 use Rattle.calculus.proofs.Moves.{lacking_fills}
-use Rattle.calculus.proofs.Resolving.{unit}
+use Rattle.calculus.proofs.Reduction.{quotient}
+use Rattle.calculus.proofs.Resolving.{unit, by_match}
 
 -- z is a multiple of d.
 pub record Multiple (d : ℕ) (z : ℤ) : Type 0 where
@@ -29,24 +31,10 @@ multiple_plus d a b p q =
 
 -- by the remainder of the absolute value
 pub multiple_mod : (d : ℕ) (z : ℤ) → nat_abs z % d ≡ 0 → Multiple d z
-multiple_mod d (pos a) h =
-    let e = div-add-mod a d in
-    record { by = pos (a / d); is = ap pos (let k : a ≡ d * (a / d) = omega arith in k) }
-multiple_mod d (negsuc a) h =
-    let e = div-add-mod (suc a) d in
-    let k : suc a ≡ d * (suc a / d) = omega arith in
-    let m = mul_neg (pos d) (pos (suc a / d)) in
-    record { by = neg_ℤ (pos (suc a / d)); is = ap (λ (n : ℕ). neg_ℤ (pos n)) k ∙ sym m }
-
-abs_times : (d : ℕ) (w : ℤ) → nat_abs (pos d *ℤ w) ≡ d * nat_abs w
-abs_times d (pos w) = refl
-abs_times d (negsuc w) = let m = mul_neg (pos d) (pos (suc w)) in abs_neg (pos d *ℤ negsuc w) (d * suc w) m
-  where
-    abs_neg : (z : ℤ) (n : ℕ) → z ≡ neg_ℤ (pos n) → nat_abs z ≡ n
-    abs_neg z n e = omega (arith, ints)
+multiple_mod d z h = let q = quotient d z (dvd_of_mod-eq-zero d h) in record { by = q.0; is = q.1 }
 
 pub mod_multiple : (d : ℕ) (z : ℤ) → Multiple d z → nat_abs z % d ≡ 0
-mod_multiple d z m = ap (λ (k : ℤ). nat_abs k % d) m.is ∙ ap (λ (k : ℕ). k % d) (abs_times d m.by) ∙ mul-mod_right d (nat_abs m.by)
+mod_multiple d z m = ap (λ (k : ℤ). nat_abs k % d) m.is ∙ ap (λ (k : ℕ). k % d) (unsigned_abs-mul (pos d) m.by) ∙ mul-mod_right d (nat_abs m.by)
 
 -- dividing a multiple and multiplying again
 pub multiple_floor : (d : ℕ) (z : ℤ) → 0 < d → Multiple d z → pos d *ℤ floor z d ≡ z
@@ -55,9 +43,9 @@ multiple_floor d z l m =
 
 -- coefficients that all divide pass the test
 pub divide_test : (d : ℕ) (cs : List ℤ) → ((i : ℕ) → Multiple d (coef cs i)) → all_divide d cs ≡ true
-divide_test d [] h = refl
-divide_test d (c ∷ cs) h =
-    ap (λ (b : Bool). b && all_divide d cs) (eq-eqb (nat_abs c % d) 0 (mod_multiple d c (h 0))) ∙ divide_test d cs (λ i. h (suc i))
+divide_test d cs h =
+    and_from_places (all_divide d) (λ c. eqb (nat_abs c % d) 0) refl (λ _ _. refl) cs (pos 0)
+    (λ i l. eq-eqb (nat_abs (coef cs i) % d) 0 (mod_multiple d (coef cs i) (h i)))
 
 -- ---- in tightening
 
@@ -66,11 +54,9 @@ pub filled : (s : Side) (d : ℕ) (c : ℤ) → 0 < d → matches s c ≡ true �
 filled s d c l m = multiple_mod d _ (ap (λ (k : ℕ). k % d) (grows s c (lacking d c) m) ∙ lacking_fills d (nat_abs c) l)
   where
     grows : (s : Side) (c : ℤ) (k : ℕ) → matches s c ≡ true → nat_abs (c +ℤ pos k *ℤ unit (turned_side s)) ≡ nat_abs c + k
-    grows Low (pos zero) k m = absurd (grind arith)
-    grows Low (pos (suc a)) k m = omega (arith, ints)
-    grows Low (negsuc a) k m = absurd (grind arith)
-    grows High (pos a) k m = absurd (grind arith)
-    grows High (negsuc a) k m = omega (arith, ints)
+    grows s c k m =
+        by_match (λ s c. nat_abs (c +ℤ pos k *ℤ unit (turned_side s)) ≡ nat_abs c + k) (λ a. omega (arith, ints))
+        (λ a. omega (arith, ints)) s c m
 
 -- a coefficient is left open whole, or it is a multiple and set aside whole
 pub data Opened (d : ℕ) (c : ℤ) : Type 0 where

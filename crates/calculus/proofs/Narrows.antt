@@ -1,12 +1,11 @@
 -- Tightening reads the whole trail and keeps its invariant and the log's. Rests on Descending and GoodLogs.
 use Rattle.std.specs.Prelude.{None, Option, Some}
 use Rattle.std.proofs.Common.{◌≡◌, ℕ, zero, suc, ◌<◌, Bool, true, false, List, [], ◌∷◌, ◌++◌, length, ℤ, nat_abs, ◌≤ℤ◌, ◌<ℤ◌, Ok, Err, sym, refl, ◌∙◌, subst, arith}
-use mathlib.Core.Path.{transport}
-use borrow.Author.Differences.{ints}
 use Rattle.std.proofs.lemmas.List.{append_assoc}
+use Rattle.std.proofs.lemmas.Int.{ints}
 use Rattle.calculus.specs.Advice.{turned_side}
 use Rattle.calculus.specs.Bounds.{Trail, low, high}
-use Rattle.calculus.specs.Logs.{Line, line_row, fields_of, Written, written}
+use Rattle.calculus.specs.Logs.{Line, line_row, Written, written}
 use Rattle.calculus.specs.RunLaws.{Grown}
 use Rattle.calculus.specs.Rows.{Row, coef}
 use Rattle.calculus.specs.Tightening.{plus, matches, reason_of, lacking, Narrowing, going, stopped, outcome, summed_by, summed, aside}
@@ -19,7 +18,7 @@ use Rattle.calculus.specs.declared.trails.Entry.{Entry}
 use Rattle.calculus.proofs.Covering.{Bare, bare_plus}
 use Rattle.calculus.proofs.Descending.{SumOf, sum_of_plus, sum_of_none, Kept, kept_past, kept_resolved, kept_aside}
 use Rattle.calculus.proofs.Firm.{InOrder, end_at, Firm, firm_order}
-use Rattle.calculus.proofs.GoodLogs.{Sound, sound_more, grown_one, last_row, last_held, Wrote, wrote, sum_made}
+use Rattle.calculus.proofs.GoodLogs.{entered, Sound, Wrote, wrote, sum_made}
 use Rattle.calculus.proofs.Multiples.{filled}
 use Rattle.calculus.proofs.Reasons.{Backed, Held, held_grown, decided_fixed, fixed_on}
 use Rattle.calculus.proofs.Stepping.{grown_same, grown_on}
@@ -47,16 +46,16 @@ module _ (rs : List Range) (rows : List Row) (ls : List Line) (sound : Sound rs 
   outcome_sums : (m q : ℕ) → q < length ls → (w : Written) → Wrote (Sum line q 1 m) (plus row m (line_row ls q)) ls w →
       Sums rs rows ls m q row part (outcome w (plus row m (line_row ls q)) (plus part m (line_row ls q)))
   outcome_sums m q k (Ok new, ms) w =
-      let l : Line = record { fields = fields_of (Sum line q 1 m); row = plus row m (line_row ls q) } in
       let fits = bare_plus (length rs) row m (line_row ls q) bare (sound.bare q) in
-      let more = sound_more rs rows ls l sound (sum_made rs rows ls row line q m held is k) fits in
+      let made = sum_made rs rows ls row line q m held is k in
+      let last = entered rs rows (Sum line q 1 m) (plus row m (line_row ls q)) ls new ms sound made fits w in
       record {
         rows_add = sum_of_plus row m (line_row ls q);
         parts_add = sum_of_plus part m (line_row ls q);
-        sound = subst (Sound rs rows) (sym w.1) more;
-        grown = subst (Grown ls) (sym w.1) (grown_one ls l);
-        held = transport (λ i. sym w.0 i < length (sym w.1 i)) (last_held ls l);
-        is = (λ i. line_row (w.1 i) (w.0 i)) ∙ last_row ls l;
+        sound = last.sound;
+        grown = last.grown;
+        held = last.held;
+        is = last.is;
         bare = fits;
       }
   outcome_sums m q k (Err r, ms) w = subst (Sound rs rows) (sym w) sound

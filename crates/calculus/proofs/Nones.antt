@@ -1,10 +1,9 @@
 -- After none: every line is justified, a check accepts the log, and no assignment is left. It rests on the run's invariant with its log,
 -- on the limits of lines, and on the soundness of logs.
-use Rattle.std.proofs.Common.{◌≡◌, ℕ, zero, suc, ◌≤◌, Bool, true, false, not, ◌||◌, eqb, List, [], ◌∷◌, length, ℤ, pos, None, Ok, Err, Result, refl, le_trans, arith}
+use Rattle.std.proofs.Common.{◌≡◌, ℕ, zero, suc, ◌≤◌, true, not, eqb, List, [], ◌∷◌, length, ℤ, pos, None, Ok, Err, Result, refl, le_trans, arith}
 use Rattle.std.specs.List.{AllByRecursion}
 use Rattle.std.proofs.lemmas.List.{length-map, get_or_past}
-use Rattle.std.proofs.lemmas.Bool.Decides.{nat_tests}
-use Rattle.calculus.specs.Account.{when, answered}
+use Rattle.std.proofs.lemmas.Bool.{eqb-true}
 use Rattle.calculus.specs.Advice.{Advice, advised}
 use Rattle.calculus.specs.Bounds.{Trail, row_at}
 use Rattle.calculus.specs.Checking.{closes, check_end}
@@ -17,14 +16,13 @@ use Rattle.calculus.specs.Runs.{whole_run, ending_of, left_by, rows_of, begin_an
 use Rattle.calculus.specs.declared.endings.Ending.TheVariants.{Plan, NoPlan, Refused}
 use Rattle.calculus.specs.declared.ranges.Range.{Range}
 use Rattle.calculus.specs.declared.refusals.Refusal.{Refusal}
-use Rattle.calculus.specs.declared.refusals.Refusal.TheVariants.{List as NoList, Misfit}
 use Rattle.calculus.proofs.Accepting.{good_justified, good_accepted, good_fields}
 use Rattle.calculus.proofs.Covering.{Bare}
 use Rattle.calculus.proofs.Firm.{fit_order}
 use Rattle.calculus.proofs.Good.{Good, Slim}
 use Rattle.calculus.proofs.GoodLogs.{Sound}
 use Rattle.calculus.proofs.Keeping.{Well}
-use Rattle.calculus.proofs.Running.{whole_room, context_of}
+use Rattle.calculus.proofs.Running.{whole_room, begins_fit, context_of}
 use Rattle.calculus.proofs.SlimRuns.{run_slim}
 use Rattle.calculus.proofs.SoundLogs.{good_excludes}
 use Rattle.calculus.proofs.Starting.{FitContext, whole_well}
@@ -77,7 +75,7 @@ lines_by : (r : Result (Unit {0}) Refusal) (rs : List Range) (rows : List Standi
     (budget : ℕ) → FitRanges rs → FitRows rs rows → log.capacity ≤ most_lines → r ≡ Ok tt →
     let end = left_by r rs (rows_of rows) a log plan budget in
     AllJustified rs rows end.log.lines × AllByRecursion (LineFits (length rs)) end.log.lines
-lines_by (Err r) rs rows a log plan budget fr fs most e = let z : ◌≡◌ {A = ℕ} 0 1 = cc in absurd (omega arith)
+lines_by (Err r) rs rows a log plan budget fr fs most e = absurd cc
 lines_by (Ok u) rs rows a log plan budget fr fs most e =
     let l = run_lines rs rows a log budget fr fs most in
     (good_justified rs (rows_of rows) _ l.good l.slim, l.fit)
@@ -88,11 +86,11 @@ lines_right rs rows a log plan budget fr fs most e = lines_by (begin_answer rs a
 -- the phase of a run that ends in none
 none_well : (p : Phase) (c : Context) (m : Machine) → m.phase ≡ p → ending_of p ≡ NoPlan → Well c p m.trail m.lines →
     Sound c.ranges c.rows m.lines × (closes m.lines ≡ true)
-none_well looking c m h e w = let z : ◌≡◌ {A = ℕ} 0 1 = cc in absurd (omega arith)
-none_well (repairing j line place) c m h e w = let z : ◌≡◌ {A = ℕ} 0 1 = cc in absurd (omega arith)
-none_well (ended Plan) c m h e w = let z : ◌≡◌ {A = ℕ} 0 1 = cc in absurd (omega arith)
+none_well looking c m h e w = absurd cc
+none_well (repairing j line place) c m h e w = absurd cc
+none_well (ended Plan) c m h e w = absurd cc
 none_well (ended NoPlan) c m h e w = w
-none_well (ended (Refused r)) c m h e w = let z : ◌≡◌ {A = ℕ} 0 1 = cc in absurd (omega arith)
+none_well (ended (Refused r)) c m h e w = absurd cc
 
 -- what is promised of the lines after none
 abbrev Shown : List Range → List Standing → Logbook → Type 0
@@ -125,20 +123,11 @@ none_by : (r : Result (Unit {0}) Refusal) (rs : List Range) (rows : List Standin
     (budget : ℕ) →
     FitRanges rs → FitRows rs rows → log.capacity ≤ most_lines → (r ≡ Ok tt → log.unknowns ≡ length rs) →
     (left_by r rs (rows_of rows) a log plan budget).ending ≡ NoPlan → Shown rs rows (left_by r rs (rows_of rows) a log plan budget).log
-none_by (Err r) rs rows a log plan budget fr fs most same e = let z : ◌≡◌ {A = ℕ} 0 1 = cc in absurd (omega arith)
+none_by (Err r) rs rows a log plan budget fr fs most same e = absurd cc
 none_by (Ok u) rs rows a log plan budget fr fs most same e = shown rs rows a log budget fr fs (same refl) most e
-
--- a run begins only with a log for its number of unknowns
-fits_by : (b d : Bool) (n m : ℕ) → answered {A = Unit {0}} (when b NoList ∷ when (d || not (eqb m n)) Misfit ∷ []) tt ≡ Ok tt → m ≡ n
-fits_by true d n m h = let z : ◌≡◌ {A = ℕ} 0 1 = cc in absurd (omega arith)
-fits_by false true n m h = let z : ◌≡◌ {A = ℕ} 0 1 = cc in absurd (omega arith)
-fits_by false false n m h = by (eqb m n) refl h
-  where
-    by : (b : Bool) → eqb m n ≡ b → answered {A = Unit {0}} (when (not b) Misfit ∷ []) tt ≡ Ok tt → m ≡ n
-    by true e h = grind (arith, nat_tests)
-    by false e h = let z : ◌≡◌ {A = ℕ} 0 1 = cc in absurd (omega arith)
 
 pub none_right : NoneRight
 none_right rs rows a log plan budget fr fs most e =
     none_by (begin_answer rs a log plan) rs rows a log plan budget fr fs most
-    (λ h. fits_by (not (eqb (length plan) (length rs))) (not (eqb (advised a) (length rs))) (length rs) log.unknowns h) e
+    (λ h. eqb-true log.unknowns (length rs)
+    (begins_fit (not (eqb (length plan) (length rs))) (eqb (advised a) (length rs)) (eqb log.unknowns (length rs)) tt h).1) e

@@ -1,10 +1,9 @@
 -- A plan lies within the ranges and meets every row, whatever the lines say: at a plan no row fails and no unknown is open, so that the
 -- least value of each row is its value at the lows. It rests on the firm trail and on what an adviser's choice is.
-use Rattle.std.proofs.Common.{◌≡◌, ℕ, ◌<◌, Bool, true, false, not, ◌||◌, eqb, ◌⊎◌, List, [], ◌∷◌, length, ℤ, pos, ◌+ℤ◌, ◌*ℤ◌, Ok, Err, Result, sym, refl, ap, ◌∙◌, subst, inl, inr, arith}
-use borrow.Author.Differences.{ints}
+use Rattle.std.proofs.Common.{◌≡◌, ℕ, ◌<◌, Bool, true, false, not, eqb, ◌⊎◌, List, [], length, ℤ, pos, ◌+ℤ◌, ◌*ℤ◌, Ok, Err, Result, sym, refl, ap, ◌∙◌, subst, inl, inr, arith}
 use Rattle.std.proofs.lemmas.List.{length-map, get_or-map}
 use Rattle.std.proofs.lemmas.Bool.{eqb-true, true≢false}
-use Rattle.calculus.specs.Account.{when, answered}
+use Rattle.std.proofs.lemmas.Int.{ints}
 use Rattle.calculus.specs.Advice.{Advice, Advises, advised}
 use Rattle.calculus.specs.Arithmetic.{sum}
 use Rattle.calculus.specs.Bounds.{Trail, low, high, lows, highs, term, least, row_at, fails_under}
@@ -13,12 +12,11 @@ use Rattle.calculus.specs.Machines.{Context, Phase, looking, repairing, ended, M
 use Rattle.calculus.specs.Promises.{PlanRight}
 use Rattle.calculus.specs.Rows.{Row, Standing, coef, value, Meets, MeetsAll, Within}
 use Rattle.calculus.specs.RunLaws.{is_over, after}
-use Rattle.calculus.specs.Runs.{start_by, start, enough_steps, whole_run, ending_of, plan_after, left_by, rows_of, begin_answer}
+use Rattle.calculus.specs.Runs.{start_by, enough_steps, whole_run, ending_of, plan_after, left_by, rows_of, begin_answer}
 use Rattle.calculus.specs.declared.endings.Ending.{Ending}
 use Rattle.calculus.specs.declared.endings.Ending.TheVariants.{Plan}
 use Rattle.calculus.specs.declared.ranges.Range.{Range}
 use Rattle.calculus.specs.declared.refusals.Refusal.{Refusal}
-use Rattle.calculus.specs.declared.refusals.Refusal.TheVariants.{List as NoList, Misfit}
 use Rattle.calculus.specs.declared.sides.Side.TheVariants.{Low}
 use Rattle.calculus.proofs.Advising.{choice_open, told_like}
 use Rattle.calculus.proofs.BetterBounds.{sum_same, term_at}
@@ -26,7 +24,7 @@ use Rattle.calculus.proofs.Firm.{InOrder, Firm, fit_order, firm_within, lows_at,
 use Rattle.calculus.proofs.Tabling.{table_long}
 use Rattle.calculus.proofs.Firsts.{first_conflict}
 use Rattle.calculus.proofs.Meeting.{within_each, meets_each}
-use Rattle.calculus.proofs.Running.{run_keeps, act_step}
+use Rattle.calculus.proofs.Running.{whole_keeps, begins_fit, act_step}
 use Rattle.calculus.proofs.Stepping.{Hears, Fine, act_ok}
 use Rattle.calculus.proofs.Unmoved.{Calm, Rest, act_rest}
 
@@ -123,34 +121,28 @@ act_planning c m p = record {
 }
 
 start_planning : (b : Bool) (c : Context) (a : Advice) → Serves (length c.ranges) a → Planning c (start_by b c a)
-start_planning true c a s = record { serves = s; right = λ h. let z : ◌≡◌ {A = ℕ} 0 1 = cc in absurd (omega arith) }
-start_planning false c a s = record { serves = s; right = λ h. let z : ◌≡◌ {A = ℕ} 0 1 = cc in absurd (omega arith) }
+start_planning true c a s = record { serves = s; right = λ h. absurd cc }
+start_planning false c a s = record { serves = s; right = λ h. absurd cc }
 
 whole_right : (c : Context) (budget : ℕ) (a : Advice) → Serves (length c.ranges) a → (whole_run c budget a).at.phase ≡ ended Plan →
     Right c (whole_run c budget a).at.trail
 whole_right c budget a s =
-    (run_keeps (Planning c) c (act_planning c) budget (enough_steps budget) (record { at = start c a; made = 0 })
-    (start_planning _ c a s)).right
+    (whole_keeps (Planning c) c (act_planning c) budget a (start_planning _ c a s)).right
 
 -- ---- the promise
 
 -- only a machine that has ended in a plan answers plan
 plan_phase : (p : Phase) → ending_of p ≡ Plan → p ≡ ended Plan
-plan_phase looking h = let z : ◌≡◌ {A = ℕ} 0 1 = cc in absurd (omega arith)
-plan_phase (repairing j line place) h = let z : ◌≡◌ {A = ℕ} 0 1 = cc in absurd (omega arith)
+plan_phase looking h = absurd cc
+plan_phase (repairing j line place) h = absurd cc
 plan_phase (ended e) h = ap ended h
 
--- the tests before a run let only an adviser for as many unknowns pass
-fit_advised : (b d e : Bool) (u : Unit {0}) → answered (when b NoList ∷ when (not d || e) Misfit ∷ []) tt ≡ Ok u → d ≡ true
-fit_advised true d e u h = let z : ◌≡◌ {A = ℕ} 0 1 = cc in absurd (omega arith)
-fit_advised false true e u h = refl
-fit_advised false false e u h = let z : ◌≡◌ {A = ℕ} 0 1 = cc in absurd (omega arith)
-
+-- a run begins only with an adviser for as many unknowns
 begins_advised : (rs : List Range) (a : Advice) (log : Logbook) (plan : List ℤ) (u : Unit {0}) → begin_answer rs a log plan ≡ Ok u →
     advised a ≡ length rs
 begins_advised rs a log plan u h =
-    let e = fit_advised (not (eqb (length plan) (length rs))) (eqb (advised a) (length rs)) (not (eqb log.unknowns (length rs))) u h in
-    eqb-true (advised a) (length rs) e
+    eqb-true (advised a) (length rs)
+    (begins_fit (not (eqb (length plan) (length rs))) (eqb (advised a) (length rs)) (eqb log.unknowns (length rs)) u h).0
 
 -- the rows without their labels, by place
 rows_meet : (xs : List ℤ) (rows : List Standing) → ((q : ℕ) → q < length (rows_of rows) → Meets xs (row_at (rows_of rows) q)) →
@@ -165,7 +157,7 @@ plan_by : (r : Result (Unit {0}) Refusal) (rs : List Range) (rows : List Standin
     (budget : ℕ) → begin_answer rs a log plan ≡ r → InOrder rs → Advises a →
     let end = left_by r rs (rows_of rows) a log plan budget in
     end.ending ≡ Plan → Within rs end.plan × MeetsAll end.plan rows
-plan_by (Err r) rs rows a log plan budget b o s h = let z : ◌≡◌ {A = ℕ} 0 1 = cc in absurd (omega arith)
+plan_by (Err r) rs rows a log plan budget b o s h = absurd cc
 plan_by (Ok u) rs rows a log plan budget b o s h =
     let c : Context = record { ranges = rs; rows = rows_of rows; capacity = log.capacity } in
     let t = (whole_run c budget a).at.trail in

@@ -2,10 +2,10 @@
 -- It rests on the firm trail alone. Take the widths at the ends of the segments between decisions as digits in base W + 2, the first the
 -- most significant, and W + 1 for each of the n + 1 segments that is not open: the potential is that number and one more.
 use Rattle.std.specs.Prelude.{None, Option, Some}
-use Rattle.std.proofs.Common.{◌≡◌, ℕ, zero, suc, ◌+◌, ◌-◌, ◌*◌, ◌^◌, ◌<◌, ◌≤◌, List, [], ◌∷◌, length, ℤ, ◌-ℤ◌, nat_abs, ◌≤ℤ◌, ◌<ℤ◌, sym, refl, ap, ◌∙◌, subst, ⊎_elim, mul-le-mul_right, suc-mul, mul_comm, mul-lt-mul_of_pos_right, pow-suc, arith}
-use native.Mathlib.Nat.{one-le-pow}
-use borrow.Author.Differences.{ints}
+use Rattle.std.proofs.Common.{◌≡◌, ℕ, zero, suc, ◌+◌, ◌-◌, ◌*◌, ◌^◌, ◌<◌, ◌≤◌, min, List, [], ◌∷◌, length, ℤ, ◌-ℤ◌, nat_abs, ◌≤ℤ◌, ◌<ℤ◌, sym, refl, ap, ◌∙◌, subst, ⊎_elim, mul-le-mul_right, suc-mul, mul_comm, mul-lt-mul_of_pos_right, pow-suc, arith}
 use Rattle.std.proofs.lemmas.Bool.{cases_eq}
+use Rattle.std.proofs.Math.Nat.{one-le-pow}
+use Rattle.std.proofs.lemmas.Int.{ints}
 use Rattle.calculus.specs.Advice.{turned_side}
 use Rattle.calculus.specs.Bounds.{Trail, low, high}
 use Rattle.calculus.specs.Machines.{decided_value, decided}
@@ -118,36 +118,15 @@ abbrev pub decisions : Trail → ℕ
 decisions [] = 0
 decisions (e ∷ t) = counted e.cause (decisions t)
 
--- 1 where there is room
-abbrev one_if_any : ℕ → ℕ
-one_if_any zero = 0
-one_if_any (suc k) = 1
-
-any_most : (k : ℕ) → one_if_any k ≤ 1
-any_most zero = omega arith
-any_most (suc k) = omega arith
-
-any_le : (j k : ℕ) → j ≤ k → one_if_any j ≤ one_if_any k
-any_le zero k h = omega arith
-any_le (suc j) zero h = absurd (omega arith)
-any_le (suc j) (suc k) h = omega arith
-
-any_none : (k : ℕ) → k ≡ 0 → one_if_any k ≡ 0
-any_none k h = ap one_if_any h
-
-any_some : (k : ℕ) → 0 < k → one_if_any k ≡ 1
-any_some zero h = absurd (omega arith)
-any_some (suc k) h = refl
-
--- how many unknowns are not fixed
+-- how many unknowns are not fixed: 1 for each with room
 abbrev pub unfixed_many : List Range → Trail → ℕ
-unfixed_many rs t = total (length rs) (λ x. one_if_any (room rs t x))
+unfixed_many rs t = total (length rs) (λ x. min 1 (room rs t x))
 
 module _ (rs : List Range) (t : Trail) (e : Entry) (o : InOrder rs) (f : Firm rs t) (h : Sits rs t e) where
   unfixed_stays : unfixed_many rs (e ∷ t) ≤ unfixed_many rs t
   unfixed_stays =
-      total_le (length rs) (λ x. one_if_any (room rs (e ∷ t) x)) (λ x. one_if_any (room rs t x))
-      (λ x. any_le (room rs (e ∷ t) x) (room rs t x) (room_falls rs t e o f h x))
+      total_le (length rs) (λ x. min 1 (room rs (e ∷ t) x)) (λ x. min 1 (room rs t x))
+      (λ x. let r = room_falls rs t e o f h x in omega arith)
 
   unfixed_falls : e.cause ≡ None → unfixed_many rs (e ∷ t) < unfixed_many rs t
   unfixed_falls k =
@@ -156,10 +135,8 @@ module _ (rs : List Range) (t : Trail) (e : Entry) (o : InOrder rs) (f : Firm rs
       one_end e.side (low rs (e ∷ t) x) (high rs (e ∷ t) x) (end_own rs t e ∙ h.fixes k ∙ sym (end_across rs t e x)) in
       let apart : low rs t x <ℤ high rs t x = h.unfixed k in
       let some : 0 < room rs t x = omega (arith, ints) in
-      let a = any_none (room rs (e ∷ t) x) none in
-      let b = any_some (room rs t x) some in
-      total_less (length rs) x (λ x. one_if_any (room rs (e ∷ t) x)) (λ x. one_if_any (room rs t x)) h.known
-      (λ x. any_le (room rs (e ∷ t) x) (room rs t x) (room_falls rs t e o f h x)) (omega arith)
+      total_less (length rs) x (λ x. min 1 (room rs (e ∷ t) x)) (λ x. min 1 (room rs t x)) h.known
+      (λ x. let r = room_falls rs t e o f h x in omega arith) (omega arith)
 
   few_by : (k : Option ℕ) → e.cause ≡ k → decisions t + unfixed_many rs t ≤ length rs →
       counted k (decisions t) + unfixed_many rs (e ∷ t) ≤ length rs
@@ -169,7 +146,7 @@ module _ (rs : List Range) (t : Trail) (e : Entry) (o : InOrder rs) (f : Firm rs
 -- decisions and unfixed unknowns are together no more than the unknowns
 pub few_decisions : (rs : List Range) (t : Trail) → InOrder rs → Firm rs t → decisions t + unfixed_many rs t ≤ length rs
 few_decisions rs [] o f =
-    let a = total_most (length rs) (λ x. one_if_any (room rs [] x)) (λ x. any_most (room rs [] x)) in
+    let a = total_most (length rs) (λ x. min 1 (room rs [] x)) (λ x. omega arith) in
     omega arith
 few_decisions rs (e ∷ t) o f = few_by rs t e o f.1 f.0 e.cause refl (few_decisions rs t o f.1)
 

@@ -1,7 +1,6 @@
 -- Tight rows, and what adding one does: it takes an unknown out of a row and the least value does not fall. Rests on Leasts.
-use Rattle.std.proofs.Common.{◌≡◌, ℕ, zero, suc, ◌<◌, true, false, ℤ, pos, negsuc, ◌+ℤ◌, ◌*ℤ◌, neg_ℤ, nat_abs, ◌≤ℤ◌, refl, ap, ◌∙◌, subst, ⊎_elim, arith}
-use borrow.Author.Differences.{ints}
-use Rattle.std.proofs.lemmas.Bool.{cases_eq}
+use Rattle.std.proofs.Common.{◌≡◌, ℕ, zero, suc, ◌<◌, true, false, ℤ, pos, negsuc, ◌+ℤ◌, ◌*ℤ◌, neg_ℤ, nat_abs, ◌≤ℤ◌, refl, ap, ◌∙◌, arith}
+use Rattle.std.proofs.lemmas.Int.{ints}
 use Rattle.calculus.specs.Advice.{turned_side}
 use Rattle.calculus.specs.Arithmetic.{sum}
 use Rattle.calculus.specs.Bounds.{term, least, without}
@@ -10,7 +9,7 @@ use Rattle.calculus.specs.Rows.{Row, coef}
 use Rattle.calculus.specs.Tightening.{plus, matches}
 use Rattle.calculus.specs.declared.sides.Side.{Side}
 use Rattle.calculus.specs.declared.sides.Side.TheVariants.{Low, High}
-use Rattle.calculus.proofs.BetterBounds.{sum_same, least_split}
+use Rattle.calculus.proofs.BetterBounds.{at_each, term_zero, sum_same, least_split}
 use Rattle.calculus.proofs.Ints.{distrib, mul_neg, times_le}
 use Rattle.calculus.proofs.Leasts.{sum_plus, sum_but, coef_plus, term_super, mixed}
 
@@ -31,27 +30,29 @@ pub record Tight (n : ℕ) (lo hi : ℕ → ℤ) (r : Row) (x : ℕ) (s : Side) 
 
 -- ---- matching coefficients
 
+-- low matches the coefficients above 0, and high those below
+pub by_match : (P : Side → ℤ → Type 0) → ((a : ℕ) → P Low (pos (suc a))) → ((a : ℕ) → P High (negsuc a)) → (s : Side) (c : ℤ) →
+    matches s c ≡ true → P s c
+by_match P low high Low (pos zero) m = absurd cc
+by_match P low high Low (pos (suc a)) m = low a
+by_match P low high Low (negsuc a) m = absurd cc
+by_match P low high High (pos a) m = absurd cc
+by_match P low high High (negsuc a) m = high a
+
 -- the term of a matching coefficient is at its end
 pub match_term : (s : Side) (c lo hi v : ℤ) → matches s c ≡ true → decided_value s lo hi ≡ v → term c lo hi ≡ c *ℤ v
-match_term Low (pos zero) lo hi v m e = absurd (grind arith)
-match_term Low (pos (suc a)) lo hi v m e = ap (λ (z : ℤ). pos (suc a) *ℤ z) e
-match_term Low (negsuc a) lo hi v m e = absurd (grind arith)
-match_term High (pos a) lo hi v m e = absurd (grind arith)
-match_term High (negsuc a) lo hi v m e = ap (λ (z : ℤ). negsuc a *ℤ z) e
+match_term s c lo hi v m e =
+    by_match (λ s c. decided_value s lo hi ≡ v → term c lo hi ≡ c *ℤ v) (λ a e. ap (λ (z : ℤ). pos (suc a) *ℤ z) e)
+    (λ a e. ap (λ (z : ℤ). negsuc a *ℤ z) e) s c m e
 
 pub match_value : (s : Side) (c v : ℤ) → matches s c ≡ true → c *ℤ v ≡ pos (nat_abs c) *ℤ toward s v
-match_value Low (pos zero) v m = absurd (grind arith)
-match_value Low (pos (suc a)) v m = refl
-match_value Low (negsuc a) v m = absurd (grind arith)
-match_value High (pos a) v m = absurd (grind arith)
-match_value High (negsuc a) v m = let e = mul_neg (pos (suc a)) v in omega (arith, ints)
+match_value s c v m =
+    by_match (λ s c. c *ℤ v ≡ pos (nat_abs c) *ℤ toward s v) (λ a. refl)
+    (λ a. let e = mul_neg (pos (suc a)) v in omega (arith, ints)) s c m
 
 pub match_cancel : (s : Side) (c : ℤ) → matches s c ≡ true → c +ℤ pos (nat_abs c) *ℤ unit s ≡ pos 0
-match_cancel Low (pos zero) m = absurd (grind arith)
-match_cancel Low (pos (suc a)) m = omega (arith, ints)
-match_cancel Low (negsuc a) m = absurd (grind arith)
-match_cancel High (pos a) m = absurd (grind arith)
-match_cancel High (negsuc a) m = omega (arith, ints)
+match_cancel s c m =
+    by_match (λ s c. c +ℤ pos (nat_abs c) *ℤ unit s ≡ pos 0) (λ a. omega (arith, ints)) (λ a. omega (arith, ints)) s c m
 
 -- a coefficient that does not match sees only the other side's end
 pub unmatched_term : (s : Side) (c lo hi lo' hi' : ℤ) → matches s c ≡ false →
@@ -113,7 +114,7 @@ resolve_least n lo hi lo' hi' x s v j r l los his o m at tight =
     let gone : coef (plus j k r).coefs x ≡ pos 0 =
     coef_plus j k r x ∙ ap (λ (z : ℤ). c +ℤ pos k *ℤ z) tight.here ∙ match_cancel s c m in
     let zero_term : term (coef (plus j k r).coefs x) (lo x) (hi x) ≡ pos 0 =
-    ap (λ (z : ℤ). term z (lo x) (hi x)) gone ∙ omega (arith, ints) in
+    term_zero (coef (plus j k r).coefs x) (lo x) (hi x) gone in
     let split = least_split n lo hi r x l in
     let d = distrib (pos k) (least n lo hi (without x r)) (term (coef r.coefs x) (lo x) (hi x)) in
     let e = ap (λ (z : ℤ). pos k *ℤ z) split in
@@ -127,11 +128,9 @@ pub unmatched_least : (n : ℕ) (lo hi lo' hi' : ℕ → ℤ) (x : ℕ) (s : Sid
     least n lo' hi' j ≡ least n lo hi j
 unmatched_least n lo hi lo' hi' x s j los his m e =
     let same = sum_same n (λ i. term (coef j.coefs i) (lo' i) (hi' i)) (λ i. term (coef j.coefs i) (lo i) (hi i))
-    (λ i b. ⊎_elim
-    (λ (h : x ≡ i). subst (λ (y : ℕ). term (coef j.coefs y) (lo' y) (hi' y) ≡ term (coef j.coefs y) (lo y) (hi y)) h
-    (unmatched_term s (coef j.coefs x) (lo' x) (hi' x) (lo x) (hi x) m e))
-    (λ (d : x ≡ i → ⊥). λ y. term (coef j.coefs i) (los i d y) (his i d y))
-    (cases_eq x i)) in
+    (λ i b. at_each (λ (y : ℕ). term (coef j.coefs y) (lo' y) (hi' y) ≡ term (coef j.coefs y) (lo y) (hi y)) x
+    (unmatched_term s (coef j.coefs x) (lo' x) (hi' x) (lo x) (hi x) m e)
+    (λ i d y. term (coef j.coefs i) (los i d y) (his i d y)) i) in
     ap (λ (z : ℤ). z +ℤ j.constant) same
 
 unit_toward : (s : Side) (v : ℤ) → unit s *ℤ v ≡ neg_ℤ (toward s v)

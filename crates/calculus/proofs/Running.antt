@@ -1,6 +1,7 @@
 -- Laws of whole runs: where a run rests it stays, larger budgets come through the same machines, and every run rests.
 use Rattle.std.proofs.Common.{◌≡◌, ℕ, zero, suc, ◌+◌, ◌-◌, ◌*◌, ◌<◌, ◌≤◌, Bool, true, false, not, ◌&&◌, ◌||◌, eqb, leb, ◌⊎◌, List, [], ◌∷◌, length, take, ℤ, Ok, Err, Result, sym, refl, ap, ◌∙◌, subst, inl, inr, le_trans, mul-le-mul_right, suc-add, zero-add, arith}
 use Rattle.std.proofs.lemmas.List.{length-take}
+use Rattle.std.proofs.lemmas.Bool.{and_parts, or_parts, or_right, false≢true}
 use Rattle.std.proofs.lemmas.Bool.Decides.{nat_tests}
 use Rattle.calculus.specs.Account.{when, answered}
 use Rattle.calculus.specs.Advice.{Advice, advised}
@@ -55,7 +56,7 @@ over_rests c budget g h = ap (λ (b : Bool). b || (is_due (act c g.at) && leb bu
 alike_by : (b l : Bool) (now next : Progress) → (l ≡ true → b ≡ true) →
     (within_budget b now next ≡ within_budget l now next) ⊎ (within_budget b now next ≡ now)
 alike_by true l now next h = inr refl
-alike_by false true now next h = let z : false ≡ true = h refl in absurd (grind arith)
+alike_by false true now next h = absurd (false≢true (h refl))
 alike_by false false now next h = inl refl
 
 alike : (budget larger : ℕ) (a : Acted) (g : Progress) → budget ≤ larger →
@@ -133,10 +134,6 @@ larger_budget rs rows a log plan budget larger l h = larger_by _ rs (rows_of row
 
 -- ---- every run rests
 
-or_true : (b : Bool) → (b || true) ≡ true
-or_true true = refl
-or_true false = refl
-
 not_due_over : (p : Phase) (entries : ℕ) → togo p entries ≤ 0 → is_over p ≡ true
 not_due_over looking entries h = absurd (omega arith)
 not_due_over (repairing j line place) entries h = absurd (omega arith)
@@ -168,15 +165,11 @@ free_on c m n true o e f =
 abbrev Settled : Context → Machine → Type 0
 Settled c m = (is_over m.phase || is_due (act c m)) ≡ true
 
-few_on : {a b k : ℕ} → a ≤ suc k → (b < a) ⊎ (b ≡ 0) → b ≤ k
-few_on h (inl l) = omega arith
-few_on h (inr e) = omega arith
-
 coast_by_ok : (a : Acted) (c : Context) (k : ℕ) (m : Machine) → act c m ≡ a → Fine c m a → togo_of m ≤ suc k →
     ((n : Machine) → togo_of n ≤ k → Settled c (coast c k n)) → Settled c (coast_by a m (coast c k))
-coast_by_ok (free n) c k m e f h later = later n (few_on h (free_on c m n (is_over m.phase) refl e f))
-coast_by_ok (halted n) c k m e f h later = ap (λ (a : Acted). is_over m.phase || is_due a) e ∙ or_true (is_over m.phase)
-coast_by_ok (moved n) c k m e f h later = ap (λ (a : Acted). is_over m.phase || is_due a) e ∙ or_true (is_over m.phase)
+coast_by_ok (free n) c k m e f h later = later n (let s = free_on c m n (is_over m.phase) refl e f in grind arith)
+coast_by_ok (halted n) c k m e f h later = or_right (is_over m.phase) _ (ap is_due e)
+coast_by_ok (moved n) c k m e f h later = or_right (is_over m.phase) _ (ap is_due e)
 
 coast_ok : (c : Context) (k : ℕ) (m : Machine) → togo_of m ≤ k → Settled c (coast c k m)
 coast_ok c zero m h = ap (λ (b : Bool). b || is_due (act c m)) (not_due_over m.phase (length m.trail) h)
@@ -222,17 +215,13 @@ falls (free n) c budget g f busy h short = let l = f.1 busy in (omega arith, f.0
 falls (halted n) c budget g f busy h short = halted_by (leb budget g.made) c budget g n refl h short f
 falls (moved n) c budget g f busy h short = moved_by (leb budget g.made) c budget g n refl h short f
 
-or_false : (a b : Bool) → (a || b) ≡ false → (a ≡ false) × (b ≡ false)
-or_false true b h = absurd (grind arith)
-or_false false b h = (refl, h)
-
 weighed_by : (resting : Bool) (c : Context) (budget k : ℕ) (g : Progress) → rests c budget g ≡ resting → Short g → weight budget g ≤ suc k →
     ((f : Progress) → Short f → weight budget f ≤ k → rests c budget (run c budget k f) ≡ true) →
     rests c budget (run c budget (suc k) g) ≡ true
 weighed_by true c budget k g e short h later =
     ap (λ (f : Progress). rests c budget f) (rest_stays c budget (suc k) g e) ∙ e
 weighed_by false c budget k g e short h later =
-    let parts = or_false (is_over g.at.phase) _ e in
+    let parts = or_parts (is_over g.at.phase) _ e in
     let next = falls (act c g.at) c budget g (act_ok c g.at) parts.0 parts.1 short in
     let less = next.0 in
     later (advanced budget (act c g.at) g) next.1 (omega arith)
@@ -280,6 +269,11 @@ run_keeps P c keeps budget zero g p = p
 run_keeps P c keeps budget (suc k) g p =
     run_keeps P c keeps budget k _ (at_advanced P budget (act c g.at) g p (keeps g.at p))
 
+-- what a start has and every step keeps, a whole run leaves
+pub whole_keeps : (P : Machine → Type 0) (c : Context) → ((m : Machine) → P m → P (after (act c m))) → (budget : ℕ) (a : Advice) →
+    P (start c a) → P (whole_run c budget a).at
+whole_keeps P c keeps budget a h = run_keeps P c keeps budget (enough_steps budget) (begins c a) h
+
 step_of : (c : Context) (m : Machine) (a : Acted) → Fine c m a → Step c m (after a)
 step_of c m (free n) f = f.0
 step_of c m (halted n) f = f.0
@@ -300,7 +294,7 @@ start_by_lasts false c a = inr (inr (inr (inr (inl refl))))
 
 whole_lasts : (c : Context) (budget : ℕ) (a : Advice) → Lasts (whole_run c budget a).at.phase
 whole_lasts c budget a =
-    run_keeps (λ m. Lasts m.phase) c (λ m h. (act_step c m).ends h) budget (enough_steps budget) (begins c a) (start_by_lasts _ c a)
+    whole_keeps (λ m. Lasts m.phase) c (λ m h. (act_step c m).ends h) budget a (start_by_lasts _ c a)
 
 answers : (p : Phase) → Lasts p → OneOf (Plan ∷ NoPlan ∷ Refused Spent ∷ Refused Long ∷ Refused Wide ∷ Refused Log ∷ []) (ending_of p)
 answers looking h = inr (inr (inl refl))
@@ -312,7 +306,7 @@ answers (ended e) (inr (inr h)) = inr (inr (inr h))
 answers_by : (r : Result (Unit {0}) Refusal) (rs : List Range) (rows : List Row) (a : Advice) (log : Logbook) (plan : List ℤ) (budget : ℕ) →
     r ≡ Ok tt →
     OneOf (Plan ∷ NoPlan ∷ Refused Spent ∷ Refused Long ∷ Refused Wide ∷ Refused Log ∷ []) (left_by r rs rows a log plan budget).ending
-answers_by (Err r) rs rows a log plan budget h = let z : ◌≡◌ {A = ℕ} 0 1 = cc in absurd (omega arith)
+answers_by (Err r) rs rows a log plan budget h = absurd cc
 answers_by (Ok u) rs rows a log plan budget h = answers _ (whole_lasts _ budget a)
 
 pub run_answers : RunAnswers
@@ -349,23 +343,14 @@ moves_within rs rows a log plan budget = moves_by _ rs (rows_of rows) a log plan
 lasting_not_spent : (p : Phase) → Lasts p → ending_of p ≡ Refused Spent → is_over p ≡ false
 lasting_not_spent looking h e = refl
 lasting_not_spent (repairing j line place) h e = refl
-lasting_not_spent (ended x) (inl h) e = absurd (let z : ◌≡◌ {A = ℕ} 0 1 = cc in omega arith)
-lasting_not_spent (ended x) (inr (inl h)) e = absurd (let z : ◌≡◌ {A = ℕ} 0 1 = cc in omega arith)
-lasting_not_spent (ended x) (inr (inr (inl h))) e = absurd (let z : ◌≡◌ {A = ℕ} 0 1 = cc in omega arith)
-lasting_not_spent (ended x) (inr (inr (inr (inl h)))) e = absurd (let z : ◌≡◌ {A = ℕ} 0 1 = cc in omega arith)
-lasting_not_spent (ended x) (inr (inr (inr (inr (inl h))))) e = absurd (let z : ◌≡◌ {A = ℕ} 0 1 = cc in omega arith)
-lasting_not_spent (ended x) (inr (inr (inr (inr (inr h))))) e = absurd h
-
-and_second : (a b : Bool) → (a && b) ≡ true → b ≡ true
-and_second true b h = h
-and_second false b h = absurd (grind arith)
+lasting_not_spent (ended x) h e = absurd (grind arith)
 
 -- a run that rests and is not over has made as many moves as its budget
 resting_moves : (over : Bool) (c : Context) (budget : ℕ) (g : Progress) → is_over g.at.phase ≡ over → over ≡ false →
     (over || (is_due (act c g.at) && leb budget g.made)) ≡ true → g.made ≤ budget → g.made ≡ budget
 resting_moves true c budget g e h r l = absurd (grind arith)
 resting_moves false c budget g e h r l =
-    let full : leb budget g.made ≡ true = and_second (is_due (act c g.at)) (leb budget g.made) r in
+    let full : leb budget g.made ≡ true = (and_parts (is_due (act c g.at)) (leb budget g.made) r).1 in
     let least : budget ≤ g.made = grind (arith, nat_tests) in
     omega arith
 
@@ -378,9 +363,17 @@ whole_spent c budget a l e =
 
 -- the tests before a run refuse list or misfit
 not_first : (b d : Bool) → answered {A = Unit {0}} (when b NoList ∷ when d Misfit ∷ []) tt ≡ Err Spent → ⊥
-not_first true d h = let z : ◌≡◌ {A = ℕ} 0 1 = cc in absurd (omega arith)
-not_first false true h = let z : ◌≡◌ {A = ℕ} 0 1 = cc in absurd (omega arith)
-not_first false false h = let z : ◌≡◌ {A = ℕ} 0 1 = cc in absurd (omega arith)
+not_first true d h = absurd cc
+not_first false true h = absurd cc
+not_first false false h = absurd cc
+
+-- and let only an adviser and a log for as many unknowns pass
+pub begins_fit : (b d e : Bool) (u : Unit {0}) → answered {A = Unit {0}} (when b NoList ∷ when (not d || not e) Misfit ∷ []) tt ≡ Ok u →
+    (d ≡ true) × (e ≡ true)
+begins_fit true d e u h = absurd cc
+begins_fit false false e u h = absurd cc
+begins_fit false true false u h = absurd cc
+begins_fit false true true u h = (refl, refl)
 
 spent_by : (r : Result (Unit {0}) Refusal) (rs : List Range) (rows : List Row) (a : Advice) (log : Logbook) (plan : List ℤ) (budget : ℕ) →
     (r ≡ Err Spent → ⊥) → length rs ≤ most_unknowns →
@@ -398,8 +391,7 @@ spent_is_budget rs rows a log plan budget l e =
 -- the base lines stay first
 pub whole_grown : (c : Context) (budget : ℕ) (a : Advice) → Grown (start c a).lines (whole_run c budget a).at.lines
 whole_grown c budget a =
-    run_keeps (λ m. Grown (start c a).lines m.lines) c (λ m h. grown_on h (act_step c m).lines.grown) budget (enough_steps budget)
-    (begins c a)
+    whole_keeps (λ m. Grown (start c a).lines m.lines) c (λ m h. grown_on h (act_step c m).lines.grown) budget a
     (grown_same (start c a).lines)
 
 -- no more lines than there is room for
@@ -412,8 +404,7 @@ start_by_room false c a e =
 
 pub whole_room : (c : Context) (budget : ℕ) (a : Advice) → length (whole_run c budget a).at.lines ≤ c.capacity
 whole_room c budget a =
-    run_keeps (λ m. length m.lines ≤ c.capacity) c (λ m h. (act_step c m).lines.room h) budget (enough_steps budget) (begins c a)
-    (start_by_room _ c a refl)
+    whole_keeps (λ m. length m.lines ≤ c.capacity) c (λ m h. (act_step c m).lines.room h) budget a (start_by_room _ c a refl)
 
 abbrev Starts : Context → Machine → Type 0
 Starts c m =
@@ -432,7 +423,7 @@ log_by : (r : Result (Unit {0}) Refusal) (rs : List Range) (rows : List Row) (a 
     let base = base_lines rs rows in
     Grown base end.log.lines
     ⊎ ((log.capacity < length base) × (end.log.lines ≡ take log.capacity base) × (end.ending ≡ Refused Log) × (end.moves ≡ 0))
-log_by (Err r) rs rows a log plan budget h = let z : ◌≡◌ {A = ℕ} 0 1 = cc in absurd (omega arith)
+log_by (Err r) rs rows a log plan budget h = absurd cc
 log_by (Ok u) rs rows a log plan budget h = by_start (starts_by _ (context_of rs rows log) a refl)
   where
     c : Context

@@ -2,13 +2,15 @@
 -- by one lemma for each of its functions. Rests on Good, on Firsts, on Divisors and on Running.
 use Rattle.std.proofs.Common.{◌≡◌, ℕ, zero, suc, ◌-◌, ◌%◌, ◌<◌, ◌≤◌, Bool, true, false, not, ◌&&◌, ◌||◌, eqb, ltb, leb, ◌⊎◌, List, [], ◌∷◌, map, length, replicate, ℤ, pos, negsuc, ◌*ℤ◌, neg_ℤ, nat_abs, Some, None, Ok, Err, Decides, Option, sym, refl, ◌∙◌, subst, inl, inr, ⊎_elim, div-le_self, arith}
 use Prim.Native.Nat.{◌∣◌}
-use native.Mathlib.Nat.{mod-le, le_of_dvd}
-use borrow.Author.Differences.{ints}
-use lib.Signed.{lt_z}
 use Rattle.std.specs.List.{AllByRecursion}
 use Rattle.std.proofs.ByRecursion.{All-get_or, All-append, All-set, All-push, All-weaker, All-take, All-map, Decides-by_and}
 use Rattle.std.proofs.lemmas.List.{length-set, length-map, length-replicate}
+use Rattle.std.proofs.lemmas.List.Elements.{recursion_from_All, All-replicate}
 use Rattle.std.proofs.lemmas.Bool.{and_parts, and_from, or_parts, not-false, leb-true, le-leb}
+use Rattle.std.proofs.lemmas.Nat.Gcd.{le_of_dvd}
+use Rattle.std.proofs.Math.Nat.{mod-le}
+use Rattle.std.specs.Int.Signed.{lt_z}
+use Rattle.std.proofs.lemmas.Int.{ints}
 use Rattle.calculus.specs.Account.{bad_range, heavy}
 use Rattle.calculus.specs.Advice.{Advice, told, choice, turned_side}
 use Rattle.calculus.specs.Arithmetic.{floor, ceiling, common, near}
@@ -23,8 +25,8 @@ use Rattle.calculus.specs.Machines.{closed, close, repair, act_in, act}
 use Rattle.calculus.specs.Promises.{FitRanges, FitRows}
 use Rattle.calculus.specs.RunLaws.{after}
 use Rattle.calculus.specs.Rows.{Row, Standing, coef, cut}
-use Rattle.calculus.specs.Runs.{lone, low_row, high_row, line_of, range_lines, row_lines, base_lines, start_by, start, rows_of}
-use Rattle.calculus.specs.Runs.{enough_steps, whole_run}
+use Rattle.calculus.specs.Runs.{lone, low_row, high_row, line_of, range_lines, row_lines, base_lines, start_by, rows_of}
+use Rattle.calculus.specs.Runs.{whole_run}
 use Rattle.calculus.specs.Tightening.{added_coefs, plus, light, fits, lacking, matches, reason_of, left_open, open_part}
 use Rattle.calculus.specs.Tightening.{Narrowing, going, stopped, outcome, summed_by, summed, aside, matched, narrowed_by, narrowed}
 use Rattle.calculus.specs.Tightening.{finished_by, finished, tightened}
@@ -37,7 +39,7 @@ use Rattle.calculus.specs.declared.trails.Entry.{Entry}
 use Rattle.calculus.proofs.Divisors.{common_divides, row_divisor_plain}
 use Rattle.calculus.proofs.Firsts.{first_conflict, first_pair}
 use Rattle.calculus.proofs.Good.{Slim}
-use Rattle.calculus.proofs.Running.{run_keeps}
+use Rattle.calculus.proofs.Running.{whole_keeps}
 
 -- ---- small rows
 
@@ -397,14 +399,10 @@ good_ends r h =
       leb-true (nat_abs r.high) end_limit (not-false (near end_limit r.high) both.1),
     )
 
-lean_zeros : (n : ℕ) → AllByRecursion Lean (replicate n (pos 0))
-lean_zeros zero = tt
-lean_zeros (suc n) = (omega arith, lean_zeros n)
-
 small_lone : (n x : ℕ) (a k : ℤ) → Lean a → nat_abs k ≤ end_limit → Small n (lone n x a k)
 small_lone n x a k l h = record {
   long = length-set (replicate n (pos 0)) x a ∙ length-replicate n (pos 0);
-  lean = All-set Lean (replicate n (pos 0)) x a l (lean_zeros n);
+  lean = All-set Lean (replicate n (pos 0)) x a l (recursion_from_All Lean _ (All-replicate Lean n (pos 0) (omega arith)));
   kept = omega arith;
 }
 
@@ -452,7 +450,7 @@ pub whole_slim : (c : Context) (budget : ℕ) (a : Advice) → GoodRanges c.rang
     AllByRecursion (Slim (length c.ranges)) (whole_run c budget a).at.lines
 whole_slim c budget a h s =
     let n = length c.ranges in
-    (run_keeps (Keeps n) c (λ m k. act_slim n c m s k) budget (enough_steps budget) (record { at = start c a; made = 0 })
+    (whole_keeps (Keeps n) c (λ m k. act_slim n c m s k) budget a
     (start_by_slim (leb (length (base_lines c.ranges c.rows)) c.capacity) c a h s)).0
 
 heavy_lean : (cs : List ℤ) → heavy cs ≡ false → AllByRecursion Lean cs

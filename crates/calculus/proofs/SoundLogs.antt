@@ -1,12 +1,13 @@
 -- Logs are sound: an assignment within the ranges that meets every row meets every line that is made from them, and no assignment meets
 -- a row that contradicts. So a log that a check accepts excludes every plan. Rests on Good, on Leasts and on Reduction.
-use Rattle.std.proofs.Common.{◌≡◌, ℕ, zero, suc, ◌-◌, ◌/◌, ◌%◌, ◌<◌, Bool, true, false, not, ◌&&◌, eqb, ltb, List, [], ◌∷◌, ◌++◌, map, length, take, set, replicate, ℤ, pos, negsuc, ◌+ℤ◌, ◌*ℤ◌, neg_ℤ, nat_abs, ◌≤ℤ◌, Some, None, Ok, Err, Option, Result, sym, refl, ap, ◌∙◌, subst, arith}
-use native.Mathlib.Nat.{div-add-mod}
-use borrow.Author.Differences.{ints}
-use lib.Signed.{lt_z}
+use Rattle.std.proofs.Common.{◌≡◌, ℕ, zero, suc, ◌-◌, ◌%◌, ◌<◌, Bool, true, false, not, ◌&&◌, eqb, ltb, List, [], ◌∷◌, ◌++◌, map, length, take, ℤ, pos, negsuc, ◌+ℤ◌, ◌*ℤ◌, neg_ℤ, nat_abs, ◌≤ℤ◌, Some, None, Ok, Err, Option, Result, sym, refl, ap, ◌∙◌, subst, arith}
 use Rattle.std.proofs.ByRecursion.{All-get_or, All-map}
-use Rattle.std.proofs.lemmas.List.{append-nil, append_assoc, length-take-le, length-replicate, get_or-take, get_or-set_same, get_or-set_other}
+use Rattle.std.proofs.lemmas.List.{append-nil, append_assoc, length-take-le, get_or-take}
 use Rattle.std.proofs.lemmas.Bool.{and_parts, eqb-true, ltb-true}
+use Rattle.std.proofs.lemmas.Nat.Gcd.{dvd-zero, dvd_of_mod-eq-zero}
+use Rattle.std.proofs.Math.IntN.{zero-*ℤ, *ℤ-zero}
+use Rattle.std.specs.Int.Signed.{lt_z}
+use Rattle.std.proofs.lemmas.Int.{ints}
 use Rattle.calculus.specs.Account.{when, answered}
 use Rattle.calculus.specs.Arithmetic.{sum, floor, same_number}
 use Rattle.calculus.specs.Bounds.{range_at, row_at}
@@ -25,22 +26,20 @@ use Rattle.calculus.specs.declared.kinds.Kind.TheVariants.{Low, High, Row as Pla
 use Rattle.calculus.specs.declared.ranges.Range.{Range}
 use Rattle.calculus.specs.declared.refusals.Refusal.{Refusal}
 use Rattle.calculus.specs.declared.refusals.Refusal.TheVariants.{Operand, Multiplier, Mismatch}
-use Rattle.calculus.proofs.BetterBounds.{sum_same, sum_only}
+use Rattle.calculus.proofs.BetterBounds.{sum_same, sum_zero, sum_only}
 use Rattle.calculus.proofs.Good.{CutsWell, Made, Good}
-use Rattle.calculus.proofs.Ints.{distrib, assoc, mul_neg, times_le, floor_times, rounded_down, sum_times}
-use Rattle.calculus.proofs.Leasts.{sum_plus, coef_added, coef_map, coef_cut, mixed}
+use Rattle.calculus.proofs.Ints.{distrib, assoc, times_le, rounded_down, sum_times}
+use Rattle.calculus.proofs.Leasts.{sum_plus, coef_added, coef_map, coef_cut, lone_here, lone_else, mixed}
 use Rattle.calculus.proofs.Meeting.{within_each}
-use Rattle.calculus.proofs.Reduction.{same_number_decides, same_row_decides}
+use Rattle.calculus.proofs.Reduction.{floor_exact, same_number_decides, same_row_decides}
 
 -- ---- sums of rows
 
 pub coef_combined : (k : ℕ) (p : Row) (m : ℕ) (q : Row) (i : ℕ) →
     coef (combined k p m q).coefs i ≡ pos k *ℤ coef p.coefs i +ℤ pos m *ℤ coef q.coefs i
 coef_combined k p m q i =
-    let z : pos k *ℤ pos 0 ≡ pos 0 = omega (arith, ints) in
-    let y : pos m *ℤ pos 0 ≡ pos 0 = omega (arith, ints) in
-    let e = coef_map (λ c. pos k *ℤ c) z p.coefs i in
-    let d = coef_map (λ c. pos m *ℤ c) y q.coefs i in
+    let e = coef_map (λ c. pos k *ℤ c) (*ℤ-zero (pos k)) p.coefs i in
+    let d = coef_map (λ c. pos m *ℤ c) (*ℤ-zero (pos m)) q.coefs i in
     let a = coef_added (map (λ c. pos k *ℤ c) p.coefs) (map (λ c. pos m *ℤ c) q.coefs) i in
     a ∙ ap (λ (u : ℤ). u +ℤ coef (map (λ c. pos m *ℤ c) q.coefs) i) e ∙ ap (λ (u : ℤ). pos k *ℤ coef p.coefs i +ℤ u) d
 
@@ -68,27 +67,17 @@ meets_combined xs k p m q h l =
     let a = times_le k (value xs p) (pos 0) h in
     let b = times_le m (value xs q) (pos 0) l in
     let e : value xs (combined k p m q) ≡ pos k *ℤ value xs p +ℤ pos m *ℤ value xs q = value_combined xs k p m q in
-    let z : pos k *ℤ pos 0 ≡ pos 0 = omega (arith, ints) in
-    let y : pos m *ℤ pos 0 ≡ pos 0 = omega (arith, ints) in
-    below (value xs (combined k p m q)) (pos k *ℤ value xs p) (pos m *ℤ value xs q) (pos k *ℤ pos 0) (pos m *ℤ pos 0) e a b z y
-  where
-    below : (v a b c d : ℤ) → v ≡ a +ℤ b → a ≤ℤ c → b ≤ℤ d → c ≡ pos 0 → d ≡ pos 0 → v ≤ℤ pos 0
-    below v a b c d e f g p q = omega (arith, ints)
+    let z = *ℤ-zero (pos k) in
+    let y = *ℤ-zero (pos m) in
+    omega (arith, ints)
 
 -- ---- cuts
 
--- a coefficient that divides is k times its quotient
-pub exact : (k : ℕ) (c : ℤ) → 0 < k → nat_abs c % k ≡ 0 → pos k *ℤ floor c k ≡ c
-exact k (pos a) l h = let d = div-add-mod a k in omega (arith, ints)
-exact k (negsuc a) l h =
-    let d = div-add-mod (suc a) k in
-    let m = mul_neg (pos k) (pos (suc a / k)) in
-    let e : negsuc a ≡ pos k *ℤ neg_ℤ (pos (suc a / k)) = omega (arith, ints) in
-    ap (λ (z : ℤ). pos k *ℤ floor z k) e ∙ ap (λ (z : ℤ). pos k *ℤ z) (floor_times (neg_ℤ (pos (suc a / k))) k l) ∙ sym e
-
+-- coefficients that divide are k times their quotients
 pub exact_all : (k : ℕ) (cs : List ℤ) (i : ℕ) → 0 < k → all_divide k cs ≡ true → pos k *ℤ floor (coef cs i) k ≡ coef cs i
-exact_all k [] i l h = exact k (pos 0) l (let d = div-add-mod 0 k in omega arith)
-exact_all k (c ∷ cs) zero l h = exact k c l (eqb-true (nat_abs c % k) 0 (and_parts (eqb (nat_abs c % k) 0) (all_divide k cs) h).0)
+exact_all k [] i l h = floor_exact k (pos 0) l (dvd-zero k)
+exact_all k (c ∷ cs) zero l h =
+    floor_exact k c l (dvd_of_mod-eq-zero k (eqb-true (nat_abs c % k) 0 (and_parts (eqb (nat_abs c % k) 0) (all_divide k cs) h).0))
 exact_all k (c ∷ cs) (suc i) l h = exact_all k cs i l (and_parts (eqb (nat_abs c % k) 0) (all_divide k cs) h).1
 
 pub meets_cut : (xs : List ℤ) (k : ℕ) (p : Row) → 0 < k → all_divide k p.coefs ≡ true → Meets xs p → Meets xs (cut k p)
@@ -104,32 +93,15 @@ meets_cut xs k p l h meets =
 
 -- ---- the rows of ranges
 
-zeros : (n i : ℕ) → coef (replicate n (pos 0)) i ≡ pos 0
-zeros zero i = refl
-zeros (suc n) zero = refl
-zeros (suc n) (suc i) = zeros n i
-
-sum_zero : (n : ℕ) (f : ℕ → ℤ) → ((i : ℕ) → f i ≡ pos 0) → sum n f ≡ pos 0
-sum_zero zero f h = refl
-sum_zero (suc n) f h = let e = sum_zero n f h in let d = h n in omega (arith, ints)
-
-zero_times : (z : ℤ) → pos 0 *ℤ z ≡ pos 0
-zero_times z = omega (arith, ints)
-
 pub value_lone : (xs : List ℤ) (x : ℕ) (a k : ℤ) → x < length xs → value xs (lone (length xs) x a k) ≡ a *ℤ coef xs x +ℤ k
 value_lone xs x a k l =
     let n = length xs in
-    let cs = set (replicate n (pos 0)) x a in
-    let f : ℕ → ℤ = λ i. coef cs i *ℤ coef xs i in
+    let f : ℕ → ℤ = λ i. coef (lone n x a k).coefs i *ℤ coef xs i in
     let g : ℕ → ℤ = λ i. pos 0 in
-    let long = length-replicate n (pos 0) in
-    let here : coef cs x ≡ a = get_or-set_same (replicate n (pos 0)) x a (pos 0) (omega arith) in
     let s : sum n f +ℤ g x ≡ sum n g +ℤ f x =
-    sum_only n x f g l
-    (λ i d. ap (λ (z : ℤ). z *ℤ coef xs i) (get_or-set_other (replicate n (pos 0)) x i a (pos 0) (λ e. d (sym e)) ∙ zeros n i)
-    ∙ zero_times (coef xs i)) in
+    sum_only n x f g l (λ i d. ap (λ (z : ℤ). z *ℤ coef xs i) (lone_else n x i a k d) ∙ zero-*ℤ (coef xs i)) in
     let z : sum n g ≡ pos 0 = sum_zero n g (λ i. refl) in
-    let e : f x ≡ a *ℤ coef xs x = ap (λ (u : ℤ). u *ℤ coef xs x) here in
+    let e : f x ≡ a *ℤ coef xs x = ap (λ (u : ℤ). u *ℤ coef xs x) (lone_here n x a k l) in
     omega (arith, ints)
 
 meets_low : (rs : List Range) (xs : List ℤ) (x : ℕ) → Within rs xs → x < length rs → Meets xs (low_row rs x)
@@ -210,7 +182,7 @@ contradicts_none xs r h m =
     let both = and_parts (all_zero r.coefs) (lt_z (pos 0) r.constant) h in
     let z : sum (length xs) (λ i. coef r.coefs i *ℤ coef xs i) ≡ pos 0 =
     sum_zero (length xs) (λ i. coef r.coefs i *ℤ coef xs i)
-    (λ i. ap (λ (u : ℤ). u *ℤ coef xs i) (zero_coefs r.coefs i both.0) ∙ zero_times (coef xs i)) in
+    (λ i. ap (λ (u : ℤ). u *ℤ coef xs i) (zero_coefs r.coefs i both.0) ∙ zero-*ℤ (coef xs i)) in
     let up : lt_z (pos 0) r.constant ≡ true = both.1 in
     omega (arith, ints)
 
@@ -242,7 +214,7 @@ kind_found true f first k later e rest h =
 kind_found false f first k later e rest h = rest h
 
 kind_listed : (f : Fields) (ks : List Kind) (k : Kind) → kind_among f ks ≡ Some k → f ≡ fields_of k
-kind_listed f [] k h = let z : ◌≡◌ {A = ℕ} 0 1 = cc in absurd (omega arith)
+kind_listed f [] k h = absurd cc
 kind_listed f (first ∷ ks) k h = kind_found (same_fields (fields_of first) f) f first k (kind_among f ks) refl (kind_listed f ks k) h
 
 -- the kind that a line is found to have gives its fields
@@ -253,9 +225,9 @@ kind_is f k h =
 passed : (a b c : Bool) →
     answered {A = Unit {0}} (when (not a) Operand ∷ when (not b) Multiplier ∷ when (not c) Mismatch ∷ []) tt ≡ Ok tt →
     (a ≡ true) × (b ≡ true) × (c ≡ true)
-passed false b c h = let z : ◌≡◌ {A = ℕ} 0 1 = cc in absurd (omega arith)
-passed true false c h = let z : ◌≡◌ {A = ℕ} 0 1 = cc in absurd (omega arith)
-passed true true false h = let z : ◌≡◌ {A = ℕ} 0 1 = cc in absurd (omega arith)
+passed false b c h = absurd cc
+passed true false c h = absurd cc
+passed true true false h = absurd cc
 passed true true true h = (refl, refl, refl)
 
 judged_cuts : (rs : List Range) (rows : List Row) (ls : List Line) (k : Kind) → multipliers_fit k ≡ true →
@@ -268,7 +240,7 @@ judged_cuts rs rows ls (Cut a k) m g = (ltb-true 0 k (and_parts (ltb 0 k) _ m).0
 
 judged_by : (o : Option Kind) (rs : List Range) (rows : List Row) (ls : List Line) (l : Line) → kind_of l.fields ≡ o →
     judged_kind o rs rows ls l.row ≡ Ok tt → Made rs rows ls l
-judged_by None rs rows ls l e h = let z : ◌≡◌ {A = ℕ} 0 1 = cc in absurd (omega arith)
+judged_by None rs rows ls l e h = absurd cc
 judged_by (Some k) rs rows ls l e h =
     let tests = passed (subject_there (length rs) (length rows) k && all_below (length ls) (operands k)) (multipliers_fit k)
     (may_give rs rows ls k && same_row (given rs rows ls k) l.row) h in
@@ -289,7 +261,7 @@ justified_made rs rows ls l h = judged_by (kind_of l.fields) rs rows ls l refl h
 
 wrong_none : (r : Result (Unit {0}) Refusal) (t : ℕ) (later : Option Objection) → wrong_or r t later ≡ None → (r ≡ Ok tt) × (later ≡ None)
 wrong_none (Ok u) t later h = (refl, h)
-wrong_none (Err r) t later h = let z : ◌≡◌ {A = ℕ} 0 1 = cc in absurd (omega arith)
+wrong_none (Err r) t later h = absurd cc
 
 pub right_lines : (rs : List Range) (rows : List Row) (before ls : List Line) → wrong_from rs rows before ls ≡ None →
     (q : ℕ) → q < length ls → Justified rs rows (before ++ take q ls) (line_at ls q)
@@ -301,21 +273,21 @@ right_lines rs rows before (l ∷ ls) h (suc q) k =
     (right_lines rs rows (before ++ l ∷ []) ls (wrong_none (judged rs rows before l) _ _ h).1 q (omega arith))
 
 pub found_none : (b : Bool) (o : Option Objection) (c : Bool) (held : ℕ) → fit_or b (line_or o (open_unless c held)) ≡ None →
-    (o ≡ None) × (c ≡ true)
-found_none false o c held h = let z : ◌≡◌ {A = ℕ} 0 1 = cc in absurd (omega arith)
-found_none true (Some o) c held h = let z : ◌≡◌ {A = ℕ} 0 1 = cc in absurd (omega arith)
-found_none true None false held h = let z : ◌≡◌ {A = ℕ} 0 1 = cc in absurd (omega arith)
-found_none true None true held h = (refl, refl)
+    (b ≡ true) × (o ≡ None) × (c ≡ true)
+found_none false o c held h = absurd cc
+found_none true (Some o) c held h = absurd cc
+found_none true None false held h = absurd cc
+found_none true None true held h = (refl, refl, refl)
 
 -- the lines of an accepted log are made as their kinds say, and its last one contradicts
 pub accepted_good : (rs : List Range) (rows : List Standing) (log : Logbook) → check_end rs rows log ≡ None →
     Good rs (rows_of rows) log.lines × (closes log.lines ≡ true)
 accepted_good rs rows log h =
-    let both = found_none (eqb log.unknowns (length rs)) (wrong_from rs (rows_of rows) [] log.lines) (closes log.lines)
+    let tests = found_none (eqb log.unknowns (length rs)) (wrong_from rs (rows_of rows) [] log.lines) (closes log.lines)
     (length log.lines) h in (
       λ q l. justified_made rs (rows_of rows) (take q log.lines) (line_at log.lines q)
-          (right_lines rs (rows_of rows) [] log.lines both.0 q l),
-      both.1,
+          (right_lines rs (rows_of rows) [] log.lines tests.1 q l),
+      tests.2,
     )
 
 -- standing rows are met as rows

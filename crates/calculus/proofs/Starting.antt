@@ -1,12 +1,11 @@
 -- The start of a run meets its invariant: the base lines are sound, and the range entries are held by them.
 -- Then so does every machine of a run. Rests on GoodLogs, Reasons and Keeping.
-use Rattle.std.proofs.Common.{◌≡◌, ℕ, zero, suc, ◌+◌, ◌<◌, ◌≤◌, Bool, true, false, ◌&&◌, ◌||◌, eqb, List, [], ◌∷◌, ◌++◌, length, replicate, ℤ, pos, negsuc, neg_ℤ, sym, refl, ap, ◌∙◌, subst, ⊎_elim, arith, eq-eqb}
-use borrow.Author.Differences.{ints}
-use Rattle.std.proofs.lemmas.List.{append-nil, append_assoc, length-append, length-set, length-replicate, get_or_past, get_or_at, get_or-set_same, get_or-set_other, get_or-append-add}
-use Rattle.std.proofs.lemmas.Bool.{cases_eq}
-use Rattle.std.proofs.lemmas.Bool.Decides.{Decides-ltb}
+use Rattle.std.proofs.Common.{◌≡◌, ℕ, zero, suc, ◌+◌, ◌<◌, ◌≤◌, Bool, true, false, List, [], ◌∷◌, ◌++◌, length, replicate, ℤ, pos, negsuc, neg_ℤ, sym, refl, ap, ◌∙◌, subst, arith}
+use Rattle.std.proofs.lemmas.List.{append-nil, append_assoc, length-append, length-set, length-replicate, get_or_past, get_or_at, get_or-append-add}
+use Rattle.std.proofs.lemmas.Bool.{or_left, lt-ltb}
+use Rattle.std.proofs.lemmas.Int.{ints}
 use Rattle.calculus.specs.Advice.{Advice}
-use Rattle.calculus.specs.Bounds.{Trail, same_side, low, high, least, without, range_at, row_at}
+use Rattle.calculus.specs.Bounds.{Trail, low, high, least, without, range_at, row_at}
 use Rattle.calculus.specs.Logs.{Line, no_line, line_at, line_row}
 use Rattle.calculus.specs.Machines.{Context}
 use Rattle.calculus.specs.RunLaws.{Grown}
@@ -18,14 +17,14 @@ use Rattle.calculus.specs.declared.kinds.Kind.TheVariants.{Low as LowLine, High 
 use Rattle.calculus.specs.declared.ranges.Range.{Range}
 use Rattle.calculus.specs.declared.sides.Side.{Side}
 use Rattle.calculus.specs.declared.sides.Side.TheVariants.{Low, High}
-use Rattle.calculus.proofs.BetterBounds.{coef_without}
+use Rattle.calculus.proofs.BetterBounds.{at_each, coef_without}
 use Rattle.calculus.proofs.Covering.{has, CoveredBut, Bare, has_more, matches_zero}
-use Rattle.calculus.proofs.Firm.{InOrder, low_entry, high_entry, start_firm}
+use Rattle.calculus.proofs.Firm.{InOrder, on_own, low_entry, high_entry, start_firm}
 use Rattle.calculus.proofs.Tabling.{table_long, table_at}
 use Rattle.calculus.proofs.Good.{Made}
 use Rattle.calculus.proofs.GoodLogs.{Sound, sound_more, sound_take}
 use Rattle.calculus.proofs.Keeping.{WellAt, act_well}
-use Rattle.calculus.proofs.Leasts.{coef_else}
+use Rattle.calculus.proofs.Leasts.{coef_else, lone_here, lone_else}
 use Rattle.calculus.proofs.Reasons.{Reason, Held, held_grown}
 use Rattle.calculus.proofs.Resolving.{unit, toward, Tight}
 use Rattle.calculus.proofs.Running.{run_keeps}
@@ -33,17 +32,6 @@ use Rattle.calculus.proofs.Stepping.{grown_same}
 use Rattle.calculus.proofs.Tightens.{plain_least}
 
 -- ---- rows with one coefficient
-
-nought_coef : (n i : ℕ) → coef (replicate n (pos 0)) i ≡ pos 0
-nought_coef zero i = refl
-nought_coef (suc n) zero = refl
-nought_coef (suc n) (suc i) = nought_coef n i
-
-lone_here : (n x : ℕ) (a k : ℤ) → x < n → coef (lone n x a k).coefs x ≡ a
-lone_here n x a k l = let e = length-replicate n (pos 0) in get_or-set_same (replicate n (pos 0)) x a (pos 0) (omega arith)
-
-lone_else : (n x i : ℕ) (a k : ℤ) → (x ≡ i → ⊥) → coef (lone n x a k).coefs i ≡ pos 0
-lone_else n x i a k d = get_or-set_other (replicate n (pos 0)) x i a (pos 0) (λ e. d (sym e)) ∙ nought_coef n i
 
 lone_bare : (n x : ℕ) (a k : ℤ) → Bare n (lone n x a k)
 lone_bare n x a k y l =
@@ -55,10 +43,8 @@ lone_bare n x a k y l =
 lone_rest : (n x : ℕ) (a k : ℤ) (lo hi : ℕ → ℤ) → least n lo hi (without x (lone n x a k)) ≡ k
 lone_rest n x a k lo hi =
     plain_least n lo hi (without x (lone n x a k))
-    (λ i. ⊎_elim
-    (λ (e : x ≡ i). subst (λ (y : ℕ). coef (without x (lone n x a k)).coefs y ≡ pos 0) e (coef_without (lone n x a k).coefs x))
-    (λ (d : x ≡ i → ⊥). coef_else (lone n x a k).coefs x i d ∙ lone_else n x i a k d)
-    (cases_eq x i))
+    (at_each (λ (y : ℕ). coef (without x (lone n x a k)).coefs y ≡ pos 0) x (coef_without (lone n x a k).coefs x)
+    (λ i d. coef_else (lone n x a k).coefs x i d ∙ lone_else n x i a k d))
 
 -- such a row, held as line q, is a reason over any trail
 lone_reason : (rs : List Range) (ls : List Line) (t : Trail) (q x : ℕ) (s : Side) (v k : ℤ) → q < length ls → x < length rs →
@@ -78,17 +64,17 @@ lone_reason rs ls t q x s v k held known is e =
 low_made : (rs : List Range) (rows : List Row) (ls : List Line) (x : ℕ) → x < length rs →
     Made rs rows ls (line_of (LowLine x) (low_row rs x))
 low_made rs rows ls x l =
-    record { kind = LowLine x; fields = refl; there = (Decides-ltb x (length rs)).1 l; earlier = refl; is = refl; cuts = tt }
+    record { kind = LowLine x; fields = refl; there = lt-ltb x (length rs) l; earlier = refl; is = refl; cuts = tt }
 
 high_made : (rs : List Range) (rows : List Row) (ls : List Line) (x : ℕ) → x < length rs →
     Made rs rows ls (line_of (HighLine x) (high_row rs x))
 high_made rs rows ls x l =
-    record { kind = HighLine x; fields = refl; there = (Decides-ltb x (length rs)).1 l; earlier = refl; is = refl; cuts = tt }
+    record { kind = HighLine x; fields = refl; there = lt-ltb x (length rs) l; earlier = refl; is = refl; cuts = tt }
 
 row_made : (rs : List Range) (rows : List Row) (ls : List Line) (p : ℕ) → p < length rows →
     Made rs rows ls (line_of (Placed p) (row_at rows p))
 row_made rs rows ls p l =
-    record { kind = Placed p; fields = refl; there = (Decides-ltb p (length rows)).1 l; earlier = refl; is = refl; cuts = tt }
+    record { kind = Placed p; fields = refl; there = lt-ltb p (length rows) l; earlier = refl; is = refl; cuts = tt }
 
 none_sound : (rs : List Range) (rows : List Row) → Sound rs rows []
 none_sound rs rows = record { good = λ q l. absurd (omega arith); bare = λ q y l. refl }
@@ -169,22 +155,18 @@ range_held rs (suc k) l =
       ),
     )
 
-on_own : (s : Side) (k : ℕ) → (same_side s s && eqb k k) ≡ true
-on_own Low k = eq-eqb k k refl
-on_own High k = eq-eqb k k refl
-
 -- every unknown has both
 range_has : (rs : List Range) (k : ℕ) (s : Side) (y : ℕ) → y < k → has s y (range_entries rs k) ≡ true
 range_has rs zero s y l = absurd (omega arith)
 range_has rs (suc k) s y l =
-    ⊎_elim (λ (e : y ≡ k). subst (λ (z : ℕ). has s z (range_entries rs (suc k)) ≡ true) (sym e) (newest_has s))
-    (λ (d : y ≡ k → ⊥). has_more s y (high_entry rs k) (low_entry rs k ∷ range_entries rs k)
-    (has_more s y (low_entry rs k) (range_entries rs k) (range_has rs k s y (omega arith))))
-    (cases_eq y k)
+    at_each (λ (z : ℕ). z < suc k → has s z (range_entries rs (suc k)) ≡ true) k (λ b. newest_has s)
+    (λ i d b. has_more s i (high_entry rs k) (low_entry rs k ∷ range_entries rs k)
+    (has_more s i (low_entry rs k) (range_entries rs k) (range_has rs k s i (omega arith))))
+    y l
   where
     newest_has : (s : Side) → has s k (range_entries rs (suc k)) ≡ true
-    newest_has Low = ap (λ (b : Bool). b || has Low k (range_entries rs k)) (on_own Low k)
-    newest_has High = ap (λ (b : Bool). b || has High k (low_entry rs k ∷ range_entries rs k)) (on_own High k)
+    newest_has Low = or_left _ _ (on_own (low_entry rs k))
+    newest_has High = or_left _ _ (on_own (high_entry rs k))
 
 -- ---- the run
 

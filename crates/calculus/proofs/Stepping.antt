@@ -3,6 +3,7 @@
 use Rattle.std.proofs.Common.{◌≡◌, ℕ, zero, suc, ◌+◌, ◌<◌, ◌≤◌, Bool, true, false, ltb, leb, ◌⊎◌, List, [], ◌∷◌, ◌++◌, length, ℤ, nat_abs, Some, None, Ok, Err, Option, sym, refl, ap, ◌∙◌, inl, inr, arith}
 use Rattle.std.proofs.lemmas.List.{append-nil, append_assoc, length-append}
 use Rattle.std.proofs.lemmas.Bool.Decides.{nat_tests}
+use Rattle.std.proofs.lemmas.Bool.{both_ways}
 use Rattle.calculus.specs.Advice.{Advice, told}
 use Rattle.calculus.specs.Bounds.{Trail}
 use Rattle.calculus.specs.Limits.{most_entries}
@@ -63,7 +64,7 @@ written_by_ok false capacity l ls h = (
     grown = record { rest = l ∷ []; is = refl };
     room = λ k. let e = length-append ls (l ∷ []) in let less : length ls < capacity = grind (arith, nat_tests) in omega arith;
   },
-  λ r e. let z : ◌≡◌ {A = ℕ} 0 1 = cc in absurd (omega arith),
+  λ r e. absurd cc,
 )
 
 pub written_ok : (capacity : ℕ) (k : Kind) (r : Row) (ls : List Line) → Writes capacity ls (written capacity k r ls)
@@ -120,7 +121,7 @@ narrowed_ok ls capacity d (e ∷ t) (stopped r more) h = h
 finished_by_ok : (b : Bool) (capacity d : ℕ) (row : Row) (line : ℕ) (ls : List Line) →
     Writes capacity ls (finished_by b capacity d row line ls)
 finished_by_ok true capacity d row line ls = written_ok capacity (Cut line d) (cut d row) ls
-finished_by_ok false capacity d row line ls = (grows_same capacity ls, λ r e. let z : ◌≡◌ {A = ℕ} 0 1 = cc in absurd (omega arith))
+finished_by_ok false capacity d row line ls = (grows_same capacity ls, λ r e. absurd cc)
 
 finished_ok : (ls : List Line) (capacity d : ℕ) (w : Narrowing) → Narrows capacity ls w → Writes capacity ls (finished capacity d w)
 finished_ok ls capacity d (going row part line more) h = writes_on capacity ls _ h (finished_by_ok (leb 2 d) capacity d row line more)
@@ -296,7 +297,7 @@ closed_ok (Err r, ls) c m h less = (taken c m m.trail ls _ h.0 (omega arith) (st
 close_ok : (place : Option ℕ) (c : Context) (m : Machine) (j : Row) (line : ℕ) → 0 < togo_of m → Fine c m (close place c m j line)
 close_ok (Some p) c m j line less = closed_ok _ c m (written_ok c.capacity (Placed p) j m.lines) less
 close_ok None c m j line less =
-    closed_ok (Ok line, m.lines) c m (grows_same c.capacity m.lines, λ r e. let z : ◌≡◌ {A = ℕ} 0 1 = cc in absurd (omega arith))
+    closed_ok (Ok line, m.lines) c m (grows_same c.capacity m.lines, λ r e. absurd cc)
     less
 
 repair_ok : (t : Trail) (c : Context) (m : Machine) (j : Row) (line : ℕ) (place : Option ℕ) → m.trail ≡ t → Busy m →
@@ -312,7 +313,7 @@ act_in_ok (repairing j line place) c m e =
     repair_ok m.trail c m j line place refl (ap is_over e) (ap (λ (p : Phase). togo p (length m.trail)) e)
 act_in_ok (ended x) c m e = (
   record { lines = grows_same c.capacity m.lines; advice = inl refl; short = λ s. s; ends = λ h. h },
-  λ busy. let z : true ≡ false = sym (ap is_over e) ∙ busy in absurd (grind arith),
+  λ busy. absurd (both_ways _ busy (ap is_over e)),
 )
 
 -- every step is fine

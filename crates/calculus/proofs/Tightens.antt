@@ -1,29 +1,26 @@
 -- Tightening ends in a tight row whose bound is at least as good as that of the row it was given. Rests on Narrows.
 use Rattle.std.proofs.Common.{◌≡◌, ℕ, zero, suc, ◌%◌, ◌<◌, Bool, true, false, ◌&&◌, leb, List, [], length, ℤ, pos, negsuc, ◌+ℤ◌, ◌-ℤ◌, ◌*ℤ◌, neg_ℤ, nat_abs, ◌≤ℤ◌, ◌<ℤ◌, Some, Ok, Err, sym, refl, ap, ◌∙◌, subst, arith, eq-eqb}
-use mathlib.Core.Path.{transport}
-use native.Mathlib.Nat.{mod_self}
-use borrow.Author.Differences.{ints}
-use lib.Signed.{le_z, lt_z}
-use Rattle.std.proofs.lemmas.Int.{by_lt_z}
+use Rattle.std.proofs.lemmas.Int.{by_lt_z, ints}
 use Rattle.std.proofs.lemmas.Bool.Decides.{nat_tests}
+use Rattle.std.proofs.Math.Nat.{mod_self}
+use Rattle.std.specs.Int.Signed.{le_z, lt_z}
 use Rattle.calculus.specs.Arithmetic.{sum, floor, ceiling}
 use Rattle.calculus.specs.Bounds.{Trail, here_or, low, high, term, least, without, bounded, better_under}
-use Rattle.calculus.specs.Logs.{Line, line_row, fields_of, Written}
+use Rattle.calculus.specs.Logs.{Line, line_row, Written}
 use Rattle.calculus.specs.RunLaws.{Grown}
 use Rattle.calculus.specs.Rows.{Row, coef, cut}
-use Rattle.calculus.specs.Tables.{picked}
 use Rattle.calculus.specs.Tightening.{left_open, open_part, Narrowing, going, stopped, finished_by, finished, tightened}
 use Rattle.calculus.specs.declared.kinds.Kind.TheVariants.{Cut}
 use Rattle.calculus.specs.declared.ranges.Range.{Range}
 use Rattle.calculus.specs.declared.sides.Side.{Side}
 use Rattle.calculus.specs.declared.sides.Side.TheVariants.{Low, High}
 use Rattle.calculus.specs.declared.trails.Bound.{Bound}
-use Rattle.calculus.proofs.BetterBounds.{sum_same, least_split}
+use Rattle.calculus.proofs.BetterBounds.{picked_only, sum_zero, term_zero, sum_same, least_split}
 use Rattle.calculus.proofs.Covering.{Complete, Covered, CoveredBut, Bare, complete_covers, covered_none, bare_cut}
 use Rattle.calculus.proofs.Descending.{under, aside_sum, Kept}
 use Rattle.calculus.proofs.Firm.{InOrder, Firm, better_nearer}
-use Rattle.calculus.proofs.BetterBounds.{Nearer}
-use Rattle.calculus.proofs.GoodLogs.{Sound, sound_more, grown_one, last_row, last_held, Wrote, wrote, cut_made}
+use Rattle.calculus.proofs.BetterBounds.{picked_only, sum_zero, term_zero, Nearer}
+use Rattle.calculus.proofs.GoodLogs.{entered, Sound, Wrote, wrote, cut_made}
 use Rattle.calculus.proofs.Ints.{times_le, times_next, ceiling_rounds, ceiling_one, floor_times}
 use Rattle.calculus.proofs.Leasts.{sum_plus, coef_map, coef_cut, Divided, cut_rest}
 use Rattle.calculus.proofs.Multiples.{Multiple, multiple_zero, multiple_floor, divide_test, Opened, stays, goes, opened}
@@ -40,17 +37,13 @@ pub record Says (a rest : ℤ) (b : Bound) : Type 0 where
   pub sign : a ≡ pos (nat_abs a) *ℤ unit b.side
   pub value : toward b.side b.value ≡ ceiling rest (nat_abs a)
 
-pub picked_is : {Y : Type 0} (t : Bool) (y z : Y) → picked t y ≡ Some z → y ≡ z
-picked_is true y z h = cc
-picked_is false y z h = let e : ◌≡◌ {A = ℕ} 0 1 = cc in absurd (omega arith)
-
 pub says : (a rest lo hi : ℤ) (b : Bound) → bounded a rest lo hi ≡ Some b → Says a rest b
-says (pos zero) rest lo hi b h = let e : ◌≡◌ {A = ℕ} 0 1 = cc in absurd (omega arith)
+says (pos zero) rest lo hi b h = absurd cc
 says (pos (suc a)) rest lo hi b h =
-    subst (Says (pos (suc a)) rest) (picked_is (le_z lo (floor (neg_ℤ rest) (suc a)) && lt_z (floor (neg_ℤ rest) (suc a)) hi) _ b h)
+    subst (Says (pos (suc a)) rest) (picked_only (le_z lo (floor (neg_ℤ rest) (suc a)) && lt_z (floor (neg_ℤ rest) (suc a)) hi) _ b h).1
     (record { some = omega arith; sign = omega (arith, ints); value = refl })
 says (negsuc a) rest lo hi b h =
-    subst (Says (negsuc a) rest) (picked_is (lt_z lo (ceiling rest (suc a)) && le_z (ceiling rest (suc a)) hi) _ b h)
+    subst (Says (negsuc a) rest) (picked_only (lt_z lo (ceiling rest (suc a)) && le_z (ceiling rest (suc a)) hi) _ b h).1
     (record { some = omega arith; sign = omega (arith, ints); value = refl })
 
 -- ---- the start
@@ -119,13 +112,8 @@ pub record Closed (rs : List Range) (whole : Trail) (x d : ℕ) (r row : Row) : 
 pub plain_least : (n : ℕ) (lo hi : ℕ → ℤ) (r : Row) → ((i : ℕ) → coef r.coefs i ≡ pos 0) → least n lo hi r ≡ r.constant
 plain_least n lo hi r h =
     let z : sum n (λ i. term (coef r.coefs i) (lo i) (hi i)) ≡ pos 0 =
-    sum_same n (λ i. term (coef r.coefs i) (lo i) (hi i)) (λ i. pos 0)
-    (λ i l. ap (λ (z : ℤ). term z (lo i) (hi i)) (h i) ∙ omega (arith, ints)) ∙ nothing n in
+    sum_zero n (λ i. term (coef r.coefs i) (lo i) (hi i)) (λ i. term_zero (coef r.coefs i) (lo i) (hi i) (h i)) in
     omega (arith, ints)
-  where
-    nothing : (n : ℕ) → sum n (λ i. pos 0) ≡ pos 0
-    nothing zero = refl
-    nothing (suc n) = let e = nothing n in omega (arith, ints)
 
 pub kept_closed : (rs : List Range) (whole : Trail) (x d : ℕ) (r row part : Row) → Kept rs whole x d r [] row part →
     Closed rs whole x d r row
@@ -232,19 +220,18 @@ module _ (rs : List Range) (rows : List Row) (whole : Trail) (x : ℕ) (r : Row)
 
     of_cut : (w : Written) → Wrote (Cut line size) (cut size row) ms w → Tightened rs rows whole x b ls w
     of_cut (Ok q, ns) w =
-        let l : Line = record { fields = fields_of (Cut line size); row = cut size row } in
         let thin = bare_cut (length rs) size row said.some n.kept.bare in
         let made = cut_made rs rows ms row line size n.held n.is said.some (divide_test size row.coefs shut.multiples) in
-        let is : line_row ns q ≡ cut size row = (λ i. line_row (w.1 i) (w.0 i)) ∙ last_row ms l in (
+        let last = entered rs rows (Cut line size) (cut size row) ms q ns n.sound made thin w in (
           record {
-            held = transport (λ i. sym w.0 i < length (sym w.1 i)) (last_held ms l);
-            tight = subst (λ (k : Row). Tight (length rs) (low rs whole) (high rs whole) k x b.side b.value) (sym is)
+            held = last.held;
+            tight = subst (λ (k : Row). Tight (length rs) (low rs whole) (high rs whole) k x b.side b.value) (sym last.is)
                 (tight_cut rs whole x r row b known said shut);
-            covered = subst (CoveredBut x whole) (sym is)
+            covered = subst (CoveredBut x whole) (sym last.is)
                 (but x whole (cut size row) (complete_covers rs whole (cut size row) complete thin));
           },
-          subst (Sound rs rows) (sym w.1) (sound_more rs rows ms l n.sound made thin),
-          grown_on n.grown (subst (Grown ms) (sym w.1) (grown_one ms l)),
+          last.sound,
+          grown_on n.grown last.grown,
         )
     of_cut (Err f, ns) w = subst (Sound rs rows) (sym w) n.sound
 

@@ -1,6 +1,6 @@
 -- A step that is no move leaves the trail or what is below its top, goes on to repair or to an end, and finds a plan only where no row
 -- fails and no unknown is chosen. One lemma for each function of the machine; nothing is asked of the lines.
-use Rattle.std.proofs.Common.{◌≡◌, ℕ, Bool, true, false, ltb, leb, ◌⊎◌, List, [], ◌∷◌, length, nat_abs, Some, None, Ok, Err, Option, sym, refl, ap, subst, inl, inr, arith}
+use Rattle.std.proofs.Common.{◌≡◌, ℕ, Bool, true, false, ltb, leb, ◌⊎◌, List, [], ◌∷◌, length, nat_abs, Some, None, Ok, Err, Option, sym, refl, ap, subst, inl, inr}
 use Rattle.calculus.specs.Advice.{Advice, choice, told}
 use Rattle.calculus.specs.Arithmetic.{common}
 use Rattle.calculus.specs.Bounds.{Trail, lows, highs, row_at, fails_under, better_under}
@@ -66,7 +66,7 @@ module _ (c : Context) (m : Machine) where
 
   refused : (t : Trail) (ls : List Line) (r : Refusal) → Lower m.trail t →
       Unmoved c m (record { trail = t; lines = ls; advice = m.advice; phase = ended (Refused r) })
-  refused t ls r l = over t ls (Refused r) (λ h. let z : ◌≡◌ {A = ℕ} 0 1 = cc in absurd (omega arith)) l
+  refused t ls r l = over t ls (Refused r) (λ h. absurd cc) l
 
   pushed_rest : (w : Written) (a : Advice) (t : Trail) (x : ℕ) (b : Bound) → Lower m.trail t → Rest c m (pushed w m a t x b)
   pushed_rest (Ok q, ls) a t x b l = tt
@@ -94,7 +94,7 @@ module _ (c : Context) (m : Machine) where
 
   closed_rest : (w : Written) → Rest c m (closed w m)
   closed_rest (Ok q, ls) =
-      over m.trail ls NoPlan (λ h. let z : ◌≡◌ {A = ℕ} 0 1 = cc in absurd (omega arith)) (inl refl)
+      over m.trail ls NoPlan (λ h. absurd cc) (inl refl)
   closed_rest (Err r, ls) = refused m.trail ls r (inl refl)
 
   close_rest : (o : Option ℕ) (j : Row) (line : ℕ) → Rest c m (close o c m j line)
@@ -106,7 +106,7 @@ module _ (c : Context) (m : Machine) where
     onwards : (t : Trail) (ls : List Line) (j : Row) (line : ℕ) (place : Option ℕ) → Lower m.trail t →
         Unmoved c m (record { trail = t; lines = ls; advice = m.advice; phase = repairing j line place })
     onwards t ls j line place l =
-        record { lower = l; onward = busy; advice = refl; planned = λ h. let z : ◌≡◌ {A = ℕ} 0 1 = cc in absurd (omega arith) }
+        record { lower = l; onward = busy; advice = refl; planned = λ h. absurd cc }
 
     fail_rest : (o : Option ℕ) → conflict c.ranges c.rows m.trail ≡ o → Rest c m (look_fail o c m)
     fail_rest (Some p) h = onwards m.trail m.lines (row_at c.rows p) (row_line c p) (Some p) (inl refl)

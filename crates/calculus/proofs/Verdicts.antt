@@ -1,10 +1,10 @@
 -- What a check answers: accepted just where every line is justified and the last one contradicts, and each objection with its reason.
-use Rattle.std.proofs.Common.{◌≡◌, ℕ, zero, suc, ◌+◌, ◌-◌, ◌<◌, ◌≤◌, Bool, true, false, ◌&&◌, eqb, ltb, List, [], ◌∷◌, ◌++◌, length, take, Some, None, Ok, Err, Option, Result, sym, refl, ap, ◌∙◌, subst, arith, eq-eqb}
+use Rattle.std.proofs.Common.{◌≡◌, ℕ, zero, suc, ◌+◌, ◌<◌, ◌≤◌, Bool, true, false, eqb, ltb, List, [], ◌∷◌, ◌++◌, length, take, Some, None, Ok, Err, Option, Result, sym, refl, ap, ◌∙◌, subst, arith, eq-eqb}
 use Rattle.std.proofs.lemmas.List.{append-nil, append_assoc, length-append}
-use Rattle.std.proofs.lemmas.Bool.Decides.{nat_tests}
+use Rattle.std.proofs.lemmas.Bool.{and_parts, ltb-true, eqb-true, both_ways}
 use Rattle.calculus.specs.CheckLaws.{AcceptsRight, MisfitIs, FirstWrong, OpenIs}
-use Rattle.calculus.specs.Checking.{judged, Justified, wrong_or, wrong_from, contradicts, closes, open_unless, line_or, fit_or, check_end}
-use Rattle.calculus.specs.Logs.{Line, Logbook, line_at, line_row}
+use Rattle.calculus.specs.Checking.{judged, Justified, wrong_or, wrong_from, closes, open_unless, line_or, fit_or, check_end}
+use Rattle.calculus.specs.Logs.{Line, Logbook, line_at}
 use Rattle.calculus.specs.Rows.{Row, Standing}
 use Rattle.calculus.specs.Runs.{rows_of}
 use Rattle.calculus.specs.declared.endings.Objection.{Objection}
@@ -59,7 +59,7 @@ module _ (rs : List Range) (rows : List Row) (before : List Line) (l : Line) (ls
 
 wrongs : (rs : List Range) (rows : List Row) (before ls : List Line) (o : Objection) → wrong_from rs rows before ls ≡ Some o →
     Wrongs rs rows before ls o
-wrongs rs rows before [] o h = let z : ◌≡◌ {A = ℕ} 0 1 = cc in absurd (omega arith)
+wrongs rs rows before [] o h = absurd cc
 wrongs rs rows before (l ∷ ls) o h =
     wrongs_by rs rows before l ls o (judged rs rows before l) refl h (wrongs rs rows (before ++ l ∷ []) ls o)
 
@@ -76,36 +76,29 @@ origin : (b : Bool) (w : Option Objection) (c : Bool) (held : ℕ) (o : Objectio
 origin false w c held o h = unfit refl (let z : o ≡ Misfit = cc in z)
 origin true (Some p) c held o h = wrong_line h
 origin true None false held o h = still_open refl refl (let z : o ≡ Open held = cc in z)
-origin true None true held o h = let z : ◌≡◌ {A = ℕ} 0 1 = cc in absurd (omega arith)
+origin true None true held o h = absurd cc
 
 origin_of : (rs : List Range) (rows : List Standing) (log : Logbook) (o : Objection) → check_end rs rows log ≡ Some o →
     Origin (eqb log.unknowns (length rs)) (wrong_from rs (rows_of rows) [] log.lines) (closes log.lines) (length log.lines) o
 origin_of rs rows log o h = origin _ _ _ _ o h
 
-fits_by : (b : Bool) (lines : Option Objection) (m n : ℕ) → eqb m n ≡ b → fit_or b lines ≡ None → m ≡ n
-fits_by true lines m n e h = grind (arith, nat_tests)
-fits_by false lines m n e h = let z : ◌≡◌ {A = ℕ} 0 1 = cc in absurd (omega arith)
-
 closes_some : (ls : List Line) → closes ls ≡ true → 1 ≤ length ls
-closes_some ls h = by (ltb 0 (length ls)) refl h
-  where
-    by : (b : Bool) → ltb 0 (length ls) ≡ b → (b && contradicts (line_row ls (length ls - 1))) ≡ true → 1 ≤ length ls
-    by true e h = grind (arith, nat_tests)
-    by false e h = absurd (grind arith)
+closes_some ls h = ltb-true 0 (length ls) (and_parts (ltb 0 (length ls)) _ h).0
 
 pub accepts_right : AcceptsRight
 accepts_right rs rows log =
     let ls = log.lines in
-    let parts : check_end rs rows log ≡ None → (wrong_from rs (rows_of rows) [] ls ≡ None) × (closes ls ≡ true) =
+    let parts : check_end rs rows log ≡ None →
+    (eqb log.unknowns (length rs) ≡ true) × (wrong_from rs (rows_of rows) [] ls ≡ None) × (closes ls ≡ true) =
     λ h. found_none (eqb log.unknowns (length rs)) (wrong_from rs (rows_of rows) [] ls) (closes ls) (length ls) h in (
       λ h. (
-        fits_by (eqb log.unknowns (length rs)) _ log.unknowns (length rs) refl h,
-        right_lines rs (rows_of rows) [] ls (parts h).0,
-        (parts h).1,
+        eqb-true log.unknowns (length rs) (parts h).0,
+        right_lines rs (rows_of rows) [] ls (parts h).1,
+        (parts h).2,
       ),
       λ n each h. found_nothing (eqb log.unknowns (length rs)) (wrong_from rs (rows_of rows) [] ls) (closes ls) (length ls)
           (eq-eqb log.unknowns (length rs) n) (none_wrong rs (rows_of rows) [] ls each) h,
-      λ h. (closes_some ls (parts h).1, omega arith),
+      λ h. (closes_some ls (parts h).2, omega arith),
     )
 
 pub misfit_is : MisfitIs
@@ -113,10 +106,10 @@ misfit_is rs rows log h n = by (origin_of rs rows log Misfit h)
   where
     by : Origin (eqb log.unknowns (length rs)) (wrong_from rs (rows_of rows) [] log.lines) (closes log.lines) (length log.lines)
         Misfit → ⊥
-    by (unfit e f) = let t = eq-eqb log.unknowns (length rs) n in let z : true ≡ false = sym t ∙ e in absurd (grind arith)
+    by (unfit e f) = both_ways _ e (eq-eqb log.unknowns (length rs) n)
     by (wrong_line e) = let w = wrongs rs (rows_of rows) [] log.lines Misfit e in let i = w.is in
-        let z : ◌≡◌ {A = ℕ} 0 1 = cc in absurd (omega arith)
-    by (still_open e f g) = let z : ◌≡◌ {A = ℕ} 0 1 = cc in absurd (omega arith)
+        absurd cc
+    by (still_open e f g) = absurd cc
 
 pub first_wrong : FirstWrong
 first_wrong rs rows log r t h = by (origin_of rs rows log (Wrong r t) h)
@@ -128,8 +121,8 @@ first_wrong rs rows log r t h = by (origin_of rs rows log (Wrong r t) h)
         (Wrong r t) →
         (t < length log.lines) × (judged rs (rows_of rows) (take t log.lines) (line_at log.lines t) ≡ Err r)
         × ((q : ℕ) → q < t → Justified rs (rows_of rows) (take q log.lines) (line_at log.lines q))
-    by (unfit e f) = let z : ◌≡◌ {A = ℕ} 0 1 = cc in absurd (omega arith)
-    by (still_open e f g) = let z : ◌≡◌ {A = ℕ} 0 1 = cc in absurd (omega arith)
+    by (unfit e f) = absurd cc
+    by (still_open e f g) = absurd cc
     by (wrong_line e) =
         let w = wrongs rs (rows_of rows) [] log.lines (Wrong r t) e in
         let i = w.is in
@@ -151,7 +144,7 @@ open_is rs rows log held h = by (origin_of rs rows log (Open held) h)
         (held ≡ length log.lines)
         × ((q : ℕ) → q < length log.lines → Justified rs (rows_of rows) (take q log.lines) (line_at log.lines q))
         × (closes log.lines ≡ false)
-    by (unfit e f) = let z : ◌≡◌ {A = ℕ} 0 1 = cc in absurd (omega arith)
+    by (unfit e f) = absurd cc
     by (wrong_line e) = let w = wrongs rs (rows_of rows) [] log.lines (Open held) e in let i = w.is in
-        let z : ◌≡◌ {A = ℕ} 0 1 = cc in absurd (omega arith)
+        absurd cc
     by (still_open e f g) = (let z : held ≡ length log.lines = cc in z, right_lines rs (rows_of rows) [] log.lines e, f)

@@ -1,5 +1,5 @@
 -- What changes nothing, what lines keep, and scripts that begin alike.
-use Rattle.std.proofs.Common.{◌≡◌, ℕ, suc, Bool, true, false, cond, eqb, ◌⊎◌, List, [], ◌∷◌, ◌++◌, Some, Ok, Err, Result, sym, refl, ap, ◌∙◌, inl, inr, append_assoc, arith, eqb-true}
+use Rattle.std.proofs.Common.{◌≡◌, ℕ, suc, Bool, true, false, cond, eqb, ◌⊎◌, List, [], ◌∷◌, ◌++◌, Some, Ok, Err, Result, sym, refl, ap, ◌∙◌, inl, inr, append_assoc, eqb-true}
 use Rattle.std.specs.List.{flat_map, AllByRecursion}
 use Rattle.calculus.specs.Account.{left, declare_answer, add_answer, mark_answer, return_answer}
 use Rattle.calculus.specs.declared.refusals.Refusal.{Refusal}
@@ -19,48 +19,48 @@ kept done (Err s) new old r apart e = refl
 
 kept_number : {B : Type 0} (x : Result ℕ Refusal) (new old : B) (r : Refusal) →
     ◌≡◌ {A = Result Answer Expected} (Ok (numbered x)) (Ok (Refused r)) → left x new old ≡ old
-kept_number (Ok k) new old r e = let z : ◌≡◌ {A = ℕ} 0 1 = cc in absurd (omega arith)
+kept_number (Ok k) new old r e = absurd cc
 kept_number (Err s) new old r e = refl
 
 pub refused_stays : RefusedStays
-refused_stays p draft r e = let z : ◌≡◌ {A = ℕ} 0 1 = cc in absurd (omega arith)
+refused_stays p draft r e = absurd cc
 refused_stays nothing (unknown low high) r e = refl
 refused_stays (drafting rs) (unknown low high) r e = ap drafting (kept_number (declare_answer rs low high) _ rs r e)
 refused_stays (ticketed a) (unknown low high) r e = refl
 refused_stays nothing settle r e = refl
-refused_stays (drafting rs) settle r e = let z : ◌≡◌ {A = ℕ} 0 1 = cc in absurd (omega arith)
+refused_stays (drafting rs) settle r e = absurd cc
 refused_stays (ticketed a) settle r e = refl
 refused_stays nothing (add label cs k) r e = refl
 refused_stays (drafting rs) (add label cs k) r e = refl
 refused_stays (ticketed a) (add label cs k) r e =
-    ap ticketed (kept Added (add_answer a label cs k) _ a r (λ f. let z : ◌≡◌ {A = ℕ} 0 1 = cc in omega arith) e)
+    ap ticketed (kept Added (add_answer a label cs k) _ a r (λ f. cc) e)
 refused_stays nothing mark r e = refl
 refused_stays (drafting rs) mark r e = refl
-refused_stays (ticketed a) mark r e = ap ticketed (kept Marked (mark_answer a) _ a r (λ f. let z : ◌≡◌ {A = ℕ} 0 1 = cc in omega arith) e)
+refused_stays (ticketed a) mark r e = ap ticketed (kept Marked (mark_answer a) _ a r (λ f. cc) e)
 refused_stays nothing return r e = refl
 refused_stays (drafting rs) return r e = refl
 refused_stays (ticketed a) return r e =
-    ap ticketed (kept Returned (return_answer a) _ a r (λ f. let z : ◌≡◌ {A = ℕ} 0 1 = cc in omega arith) e)
+    ap ticketed (kept Returned (return_answer a) _ a r (λ f. cc) e)
 refused_stays p rows r e = refl
 refused_stays p (later l) r e = refl
 
 pub misplaced_stays : MisplacedStays
-misplaced_stays p draft w e = let z : ◌≡◌ {A = ℕ} 0 1 = cc in absurd (omega arith)
+misplaced_stays p draft w e = absurd cc
 misplaced_stays nothing (unknown low high) w e = refl
-misplaced_stays (drafting rs) (unknown low high) w e = let z : ◌≡◌ {A = ℕ} 0 1 = cc in absurd (omega arith)
+misplaced_stays (drafting rs) (unknown low high) w e = absurd cc
 misplaced_stays (ticketed a) (unknown low high) w e = refl
 misplaced_stays nothing settle w e = refl
-misplaced_stays (drafting rs) settle w e = let z : ◌≡◌ {A = ℕ} 0 1 = cc in absurd (omega arith)
+misplaced_stays (drafting rs) settle w e = absurd cc
 misplaced_stays (ticketed a) settle w e = refl
 misplaced_stays nothing (add label cs k) w e = refl
 misplaced_stays (drafting rs) (add label cs k) w e = refl
-misplaced_stays (ticketed a) (add label cs k) w e = let z : ◌≡◌ {A = ℕ} 0 1 = cc in absurd (omega arith)
+misplaced_stays (ticketed a) (add label cs k) w e = absurd cc
 misplaced_stays nothing mark w e = refl
 misplaced_stays (drafting rs) mark w e = refl
-misplaced_stays (ticketed a) mark w e = let z : ◌≡◌ {A = ℕ} 0 1 = cc in absurd (omega arith)
+misplaced_stays (ticketed a) mark w e = absurd cc
 misplaced_stays nothing return w e = refl
 misplaced_stays (drafting rs) return w e = refl
-misplaced_stays (ticketed a) return w e = let z : ◌≡◌ {A = ℕ} 0 1 = cc in absurd (omega arith)
+misplaced_stays (ticketed a) return w e = absurd cc
 misplaced_stays p rows w e = refl
 misplaced_stays p (later l) w e = refl
 
@@ -85,9 +85,9 @@ lines_some : (b : ℕ) (bs : List ℕ) → lines (b ∷ bs) ≡ [] → ⊥
 lines_some b bs e = some_by (eqb b 10) (lines bs) e
   where
     some_by : (t : Bool) (ls : List (List ℕ)) → cond t ([] ∷ ls) (before_first b ls) ≡ [] → ⊥
-    some_by true ls e = let z : ◌≡◌ {A = ℕ} 0 1 = cc in omega arith
-    some_by false [] e = let z : ◌≡◌ {A = ℕ} 0 1 = cc in omega arith
-    some_by false (l ∷ ls) e = let z : ◌≡◌ {A = ℕ} 0 1 = cc in omega arith
+    some_by true ls e = cc
+    some_by false [] e = cc
+    some_by false (l ∷ ls) e = cc
 
 keeps_by : (t : Bool) (b : ℕ) (bs : List ℕ) (ls : List (List ℕ)) → eqb b 10 ≡ t → (ls ≡ [] → bs ≡ []) → Keeps ls bs →
     Keeps (cond t ([] ∷ ls) (before_first b ls)) (b ∷ bs)
@@ -124,6 +124,6 @@ stops_by (speaks t q) n go on s h e = ap (λ (o : Outcome). record { text = t ++
 stops_by (wants w) n go on s h e = refl
 
 pub stops_alike : StopsAlike
-stops_alike n p [] more s e = let z : ◌≡◌ {A = ℕ} 0 1 = cc in absurd (omega arith)
+stops_alike n p [] more s e = absurd cc
 stops_alike n p (l ∷ ls) more s e =
     stops_by (turn p l) n (λ q. outcome (suc n) q ls) (λ q. outcome (suc n) q (ls ++ more)) s (λ q f. stops_alike (suc n) q ls more s f) e

@@ -1,5 +1,5 @@
 -- The wording of an answer.
-use Rattle.std.specs.Prelude.{ℕ, List, ◌∷◌, ◌++◌, ℤ, codes, decimal}
+use Rattle.std.specs.Prelude.{ℕ, List, ◌++◌, codes, decimal}
 use Rattle.calculus.specs.Wording.{refusal_worded}
 use Rattle.keywords.specs.Keywords.{later_word}
 use Rattle.script.specs.declared.answers.Answer.{Answer}

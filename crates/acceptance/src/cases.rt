@@ -76,16 +76,20 @@ impl Case {
     // One line of a table.
     pub(crate) fn take(&mut self, heap: Global, line: &str) -> anyhow::Result<()> {
         if let Some(name) = line.strip_prefix("= ") {
-            self.name = Some(String::from_str(heap, name)?);
+            if !name.is_empty() {
+                self.name = Some(String::from_str(heap, name)?);
+            }
         } else if let Some(rest) = line.strip_prefix('>') {
             push_lines(heap, &mut self.script, rest)?;
         } else if let Some(rest) = line.strip_prefix('<') {
             push_lines(heap, &mut self.due.answers, rest)?;
         } else if let Some(text) = line.strip_prefix("! ") {
-            self.due
-                .message
-                .get_or_insert_with(|| String::new(heap))
-                .push_str(text)?;
+            if !text.is_empty() {
+                self.due
+                    .message
+                    .get_or_insert_with(|| String::new(heap))
+                    .push_str(text)?;
+            }
         } else if !line.is_empty() && !line.starts_with('#') {
             bail!("a line of a table begins with no mark");
         }

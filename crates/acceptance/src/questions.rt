@@ -1,5 +1,8 @@
-// The questions to a ticket, which a script does not ask.
+// The questions to a ticket, which a script does not ask, and rows with a word that is no number.
 use calculus::Range;
+use day::{Stop, run_script};
+use rows::RowView;
+use script::Expected;
 use std::alloc::{AllocError, Global};
 use ticket::{Draft, Ticket};
 
@@ -17,10 +20,18 @@ fn sample(heap: Global) -> Result<Ticket, AllocError> {
     Ok(ticket)
 }
 
-fn has_row(ticket: &Ticket, place: usize, label: u8, coefficients: &[i32], constant: i32) -> bool {
-    ticket.rows().row(place).is_some_and(|row| {
-        row.label == label && row.coefficients == coefficients && row.constant == constant
-    })
+fn has_row(ticket: &Ticket, place: usize, row: RowView<'_>) -> bool {
+    ticket.rows().row(place) == Some(row)
+}
+
+// Whether the script stops at its fourth line, where a number was expected.
+fn expects_number(heap: Global, script: &[u8]) -> bool {
+    let mut answers = String::new(heap);
+    run_script(heap, script, &mut answers)
+        == Err(Stop::Line {
+            number: 4,
+            expected: Expected::Number,
+        })
 }
 
 // Whether each question is answered as it should be.
@@ -35,13 +46,36 @@ pub(crate) fn answers_hold(heap: Global) -> Result<bool, AllocError> {
                 high: 1_048_576,
             })
         && rows.range(2).is_none();
-    let standing = has_row(&ticket, 0, 5, &[1, -2], 3)
-        && has_row(&ticket, 1, 255, &[32_768, -32_768], -1_073_741_824)
-        && has_row(&ticket, 2, 1, &[0, 0], 9)
-        && ticket.rows().row(3).is_none()
+    let standing = has_row(
+        &ticket,
+        0,
+        RowView {
+            label: 5,
+            coefficients: &[1, -2],
+            constant: 3,
+        },
+    ) && has_row(
+        &ticket,
+        1,
+        RowView {
+            label: 255,
+            coefficients: &[32_768, -32_768],
+            constant: -1_073_741_824,
+        },
+    ) && has_row(
+        &ticket,
+        2,
+        RowView {
+            label: 1,
+            coefficients: &[0, 0],
+            constant: 9,
+        },
+    ) && ticket.rows().row(3).is_none()
         && ticket.rows().rows().len() == 3;
     let _ = ticket.return_to_mark();
     let rows = ticket.rows();
     let after = rows.len() == 2 && rows.marks() == 1 && rows.row(2).is_none();
-    Ok(counts && ranges && standing && after)
+    let numbers = expects_number(heap, b"draft\nunknown 0 1\nsettle\nadd 1 x 0\n")
+        && expects_number(heap, b"draft\nunknown 0 1\nsettle\nadd 1 0 x\n");
+    Ok(counts && ranges && standing && after && numbers)
 }

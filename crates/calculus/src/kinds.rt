@@ -1,5 +1,5 @@
 // The lines of a log, without their rows.
-ghost use Rattle.std.specs.Prelude.{◌≡◌, Some, Ok, ok_or};
+ghost use Rattle.std.specs.Prelude.{◌≡◌, IfOk, Some, Ok, ok_or};
 ghost use Rattle.calculus.specs.Checking.{kind_of};
 ghost use Rattle.calculus.specs.Logs.{fields_of};
 ghost use Rattle.calculus.specs.declared.refusals.Refusal.TheVariants.{Kind as NoKind};
@@ -53,7 +53,7 @@ const CUT: u8 = 5;
 
 // The fields of a line of a kind; those that the kind does not use are 0.
 impl From<Kind> for Fields {
-    ghost from_gives = { λ k f. f ≡ fields_of k };
+    ghost from_gives = { λ k f. (f ≡ fields_of k) × (kind_of f ≡ Some k) };
 
     fn from(kind: Kind) -> Fields
         ensures value { result ≡ fields_of kind }
@@ -79,7 +79,7 @@ impl From<Kind> for Fields {
 impl TryFrom<Fields> for Kind {
     type Error = Refusal;
 
-    ghost try_from_gives = { λ f r. r ≡ ok_or (kind_of f) NoKind };
+    ghost try_from_gives = { λ f r. (r ≡ ok_or (kind_of f) NoKind) × IfOk r (λ k. fields_of k ≡ f) };
 
     fn try_from(fields: Fields) -> Result<Kind, Refusal>
         ensures value { result ≡ ok_or (kind_of fields) NoKind }

@@ -5,7 +5,7 @@ ghost use Rattle.calculus.specs.declared.refusals.Refusal.TheVariants.{Log, Shap
 
 use calculus::Refusal;
 
-// The number of the next line of a log: the row has to have an entry for each unknown and one more, and there has to be room.
+// Asked by numbers: over `&L` of a log, an implementation of the trait would lead back to itself. The number of the next line of a log: the row has to have an entry for each unknown and one more, and there has to be room.
 pub(crate) fn next_line(
     row: &[i32],
     unknowns: usize,

@@ -13,7 +13,7 @@ fn opened(heap: Global, numbers: usize, unknowns: usize) -> Result<Numbers, Fail
     Ok(Numbers::open(vec![in heap; FOUND; numbers]?, unknowns)?)
 }
 
-// An answer with its refusal by number.
+// An answer with its refusal by number, as the rules list them.
 fn by_number(answer: Result<usize, Refusal>) -> Result<usize, u8> {
     answer.map_err(Refusal::number)
 }

@@ -23,6 +23,7 @@ fn said_so(done: Answer, taken: Result<(), Refusal>) -> Answer
     taken.map_or_else(Answer::Refused, |()| done)
 }
 
+// Each command takes the stage apart where it begins, three of them alike: to hand out the ticket to be changed would take a clause on the loan.
 impl Day {
     // A new draft, whatever stood before.
     fn begin(&mut self) -> Result<Answer, Fault>
@@ -58,6 +59,7 @@ impl Day {
         }
     }
 
+    // The three parts of a row as the line gives them: the constant is wider than in a row that stands.
     fn add(&mut self, label: u8, coefficients: &[i32], constant: i64) -> Result<Answer, Fault>
         ensures { Done self.old (add label coefficients.now constant) result self.new }
     {

@@ -25,6 +25,7 @@ impl<'a> Lines<'a> {
     }
 }
 
+// By hand, and not by `split` of the library, which gives one line more after a last newline.
 impl<'a> Iterator for Lines<'a> {
     ghost use Rattle.std.specs.Iterator.{YieldsFirstRef, item_count};
 

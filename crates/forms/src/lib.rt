@@ -6,4 +6,4 @@ mod doubles;
 mod rows;
 
 pub use arithmetic::is_near;
-pub use rows::{Row, RowView};
+pub use rows::RowView;

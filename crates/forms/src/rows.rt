@@ -1,16 +1,10 @@
-// A row under its label, lent and held.
-ghost use Rattle.std.specs.Prelude.{◌≡◌, ◌≤◌, Some, length};
-ghost use Rattle.calculus.specs.Limits.{most_unknowns};
+// A row under its label, lent.
+ghost use Rattle.std.specs.Prelude.{Some};
 ghost use Rattle.calculus.specs.Wording.{row_worded};
-ghost use Rattle.forms.specs.Seen.{seen};
 
-use arrayvec::ArrayVec;
-use calculus::MAX_UNKNOWNS;
 use std::fmt;
-use std::marker::Model;
 
-// A row that is lent.
-#[derive(Clone, Copy)]
+#[derive(Clone, Copy, Debug, PartialEq, Eq)]
 pub struct RowView<'a> {
     pub label: u8,
     pub coefficients: &'a [i32],
@@ -27,47 +21,5 @@ impl<'a> fmt::Display for RowView<'a> {
             write!(f, " {coefficient}")?;
         }
         write!(f, " {}", self.constant)
-    }
-}
-
-// A row that is held. It lies in the value itself, with room for as many coefficients as a ticket may have unknowns.
-#[derive(Drop)]
-pub struct Row {
-    label: u8,
-    coefficients: ArrayVec<i32, MAX_UNKNOWNS>,
-    constant: i32,
-}
-
-impl Model for Row {
-    ghost use Rattle.calculus.specs.Account.{standing};
-    ghost use Rattle.calculus.specs.Rows.{Standing};
-
-    ghost Value = { Standing };
-
-    ghost view = { λ r. standing r.label r.coefficients.items r.constant };
-}
-
-impl Row {
-    // The row that is lent, to be held.
-    pub fn of(view: RowView<'_>) -> Row
-        requires { length view.coefficients.now ≤ most_unknowns }
-        ensures { result ≡ seen view.entry }
-    {
-        Row {
-            label: view.label,
-            coefficients: ArrayVec::try_from(view.coefficients).unwrap(),
-            constant: view.constant,
-        }
-    }
-
-    // The row that is held, lent.
-    pub fn view(&self) -> RowView<'_>
-        ensures { seen result ≡ self.now }
-    {
-        RowView {
-            label: self.label,
-            coefficients: self.coefficients.as_slice(),
-            constant: self.constant,
-        }
     }
 }

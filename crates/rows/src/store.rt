@@ -2,8 +2,8 @@
 ghost use Rattle.std.specs.Prelude.{◌≤◌, ◌≤ℤ◌, unsigned_abs};
 ghost use Rattle.calculus.specs.Limits.{end_limit, most_rows};
 
+use crate::held::Row;
 use calculus::Range;
-use forms::Row;
 use std::marker::Model;
 
 mod calls;
@@ -27,7 +27,7 @@ pub(crate) struct Mark {
 }
 
 // The ranges declared so far, and the memory for the rows and marks to come. A contract sees the ranges. It has the parts of `Rows` and is
-// a type of its own, so that what declares cannot add and what adds cannot declare.
+// a type of its own: its value and its invariant are others.
 #[derive(Drop)]
 pub struct Blank {
     spans: Vec<Span>,

@@ -4,7 +4,7 @@ ghost use Rattle.std.specs.Option.{option_map};
 ghost use Rattle.std.specs.Prelude.{◌≡◌, ◌-◌, ◌^◌, min, pos, Some};
 ghost use Rattle.std.specs.Int.{saturate_to_bits};
 
-// The number that digits write, 2^64 - 1 where it is larger.
+// The number that digits write, 2^64 - 1 where it is larger. A loop that leaves at the first other byte: `try_fold` says it no plainer.
 #[tactic(auto, using(crate::proofs::Saturation::cut_none, crate::proofs::Saturation::cut_more, crate::proofs::Saturation::cut_end))]
 fn read_digits(text: &[u8]) -> Option<u64>
     ensures { result ≡ option_map (λ n. min n (2 ^ 64 - 1)) (digits_after 0 text.now) }
@@ -58,7 +58,8 @@ pub(crate) fn read_wide(text: &[u8]) -> Option<i64>
     }
 }
 
-// The number of 32 bits with sign that is nearest to n. The cast of what is clamped loses nothing.
+// The number of 32 bits with sign that is nearest to n. The cast of what is clamped loses nothing: `try_from` would need an
+// answer to what cannot come.
 fn shortened(n: i64) -> i32
     ensures { result ≡ saturate_to_bits 31 n }
 {

@@ -30,6 +30,7 @@ fn is_blank(byte: &u8) -> bool
     matches!(byte, b' ' | b'\t' | b'\r')
 }
 
+// By hand, and not by `split` and `filter` of the library: the type of such a chain cannot be named where words are passed on.
 impl<'a> Iterator for Words<'a> {
     ghost use Rattle.std.specs.Iterator.{YieldsFirstRef, item_count};
 

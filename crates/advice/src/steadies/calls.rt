@@ -30,6 +30,7 @@ impl Adviser for Steady {
         self.unknowns
     }
 
+    // As the blaming adviser's, over numbers in place of names; one function of both would take the iterator's laws as premises.
     fn ask(&self, ends: Ends<'_>) -> Option<(usize, Side)> {
         if !ends.have_length(self.unknowns) {
             return None;

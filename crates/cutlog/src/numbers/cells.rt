@@ -8,7 +8,7 @@ use calculus::Fields;
 // The numbers of a line before its coefficients: one for each field.
 pub(super) const HEAD: usize = 5;
 
-// The fields that five numbers spell; 0 for each that is none of its width.
+// The fields that five numbers spell; 0 for each that is none of its width. No `From`: neither type is this crate's.
 #[tactic(auto, using(crate::proofs::Narrowing::unsigned_narrowed))]
 pub(super) fn fields_of(head: &[i64; HEAD]) -> Fields
     ensures { result ≡ fields_in head.now 0 }

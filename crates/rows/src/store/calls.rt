@@ -7,8 +7,9 @@ ghost use Rattle.calculus.specs.Rows.{doubled};
 ghost use Rattle.forms.specs.Seen.{seen};
 
 use super::{Mark, Rows};
+use crate::held::Row;
 use calculus::{MAX_COEFFICIENT, MAX_CONSTANT, MAX_MARKS, MAX_ROWS, Refusal};
-use forms::{Row, RowView, is_near};
+use forms::{RowView, is_near};
 
 // Whether a coefficient of the list lies outside its limits.
 fn has_heavy(coefficients: &[i32]) -> bool
@@ -34,7 +35,8 @@ impl Rows {
         self.rows.iter().any(|row| row.view().is_double(added))
     }
 
-    // One row more, kept as it is given. The constant is within its limits where it is cast, so `try_from` would answer what cannot come.
+    // One row more, kept as it is given. The constant is wider than in a row that stands, and within its limits where it is
+    // cast: `try_from` would need an answer to what cannot come.
     pub fn add(&mut self, label: u8, coefficients: &[i32], constant: i64) -> Result<(), Refusal>
         ensures answer { result ≡ add_answer self.old label coefficients.now constant }
         ensures account { self.new ≡ added self.old label coefficients.now constant }

@@ -1,5 +1,7 @@
 // A blank, its unknowns, and settling.
-ghost use Rattle.std.specs.Prelude.{◌≡◌, [], IfOk};
+ghost use Rattle.std.specs.Prelude.{◌≡◌, ◌≤◌, ◌≤ℤ◌, [], All, IfOk, length, unsigned_abs};
+ghost use Rattle.calculus.specs.Limits.{end_limit, most_unknowns};
+ghost use Rattle.calculus.specs.declared.ranges.Range.{Range as Ends};
 ghost use Rattle.calculus.specs.Account.{bad_range, declare_answer, declared, settled};
 
 use super::{Blank, Rows, Span};
@@ -29,6 +31,9 @@ impl Blank {
     pub fn declare(&mut self, low: i32, high: i32) -> Result<usize, Refusal>
         ensures answer { result ≡ declare_answer self.old low high }
         ensures ranges { self.new ≡ declared self.old low high }
+        ensures few { length self.new ≤ most_unknowns }
+        ensures ordered { All (λ (r : Ends). r.low ≤ℤ r.high) self.new }
+        ensures near { All (λ (r : Ends). (unsigned_abs r.low ≤ end_limit) × (unsigned_abs r.high ≤ end_limit)) self.new }
     {
         let unknown = self.spans.len();
         if unknown >= MAX_UNKNOWNS {

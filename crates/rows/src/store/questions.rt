@@ -6,8 +6,9 @@ ghost use Rattle.calculus.specs.Rows.{Standing};
 ghost use Rattle.forms.specs.Seen.{seen};
 
 use super::Rows;
+use crate::held::Row;
 use calculus::Range;
-use forms::{Row, RowView};
+use forms::RowView;
 
 impl Rows {
     // The number of unknowns.
@@ -39,6 +40,7 @@ impl Rows {
     pub fn marks(&self) -> usize
         ensures value { result ≡ length self.now.marks }
         ensures few { result ≤ most_marks }
+        ensures held { All (λ rows. rows ≤ most_rows) self.now.marks }
     {
         self.marks.len()
     }

@@ -152,6 +152,48 @@ fn any_is_the_one_it_holds(rt: HostRuntime) -> Result<(), Fail> {
 }
 
 #[test]
+fn any_is_asked_and_told(rt: HostRuntime) -> Result<(), Fail> {
+    let heap = rt.alloc();
+    passes(&rt, &mut AnyAdviser::Steady(Steady::new(3)?), Side::Low, 0);
+    passes(
+        &rt,
+        &mut AnyAdviser::Blaming(Blaming::new(heap, 3)?),
+        Side::Low,
+        2,
+    );
+    passes(
+        &rt,
+        &mut AnyAdviser::TurnedSteady(Turned::over(Steady::new(3)?)),
+        Side::High,
+        0,
+    );
+    passes(
+        &rt,
+        &mut AnyAdviser::TurnedBlaming(Turned::over(Blaming::new(heap, 3)?)),
+        Side::High,
+        2,
+    );
+    declines(
+        &rt,
+        &mut AnyAdviser::TurnedBlaming(Turned::over(Blaming::new(heap, 3)?)),
+    );
+    Ok(())
+}
+
+#[test]
+fn steady_of_none_and_one(rt: HostRuntime) -> Result<(), Fail> {
+    let mut none = Steady::new(0)?;
+    assert_eq!(rt; ask_and_tell(&mut none, ends(&[], &[])), None);
+    assert_eq!(rt; none.unknowns(), 0);
+    let mut one = Steady::new(1)?;
+    assert_eq!(rt;
+        ask_and_tell(&mut one, ends(&[0], &[1])),
+        Some((0, Side::Low))
+    );
+    Ok(())
+}
+
+#[test]
 fn sizes(rt: HostRuntime) -> Result<(), Fail> {
     let mut none = Blaming::new(rt.alloc(), 0)?;
     assert_eq!(rt; ask_and_tell(&mut none, ends(&[], &[])), None);

@@ -12,6 +12,7 @@ mod making;
 mod parts;
 
 // The memory handed in, and how many lines of it are held. What the memory holds is read as 0 where it is no number of a line.
+// Contracts name its book, as of every log, and its memory, which no other log has: one model would hide one of the two.
 // It stays one list of numbers: it is handed in, handed back whole, and written nowhere but where a new line lies.
 #[derive(Drop)]
 pub struct Numbers {

@@ -159,3 +159,26 @@ fn lines_copied_into_a_quota(rt: HostRuntime) -> Result<(), Fail> {
     assert_eq!(rt; Kind::try_from(quota.fields(0)), Ok(kind));
     Ok(())
 }
+
+#[test]
+fn lines_copied_out_of_a_quota(rt: HostRuntime) -> Result<(), Fail> {
+    let mut quota = Quota::over(opened(rt.alloc(), 28, 1)?, 1);
+    let kind = Kind::Sum {
+        first: 65_535,
+        second: 65_535,
+        k: 4_294_967_295,
+        m: 4_294_967_295,
+    };
+    assert_eq!(rt; add_line(&mut quota, kind, &[7, -8]), Ok(0));
+    assert_eq!(rt;
+        add_line(&mut quota, kind, &[7, -8]).map_err(Refusal::number),
+        Err(14)
+    );
+    let mut log = opened(rt.alloc(), 7, 1)?;
+    let mut row = [0; 2];
+    assert_eq!(rt; copy_line(&quota, 0, &mut log, &mut row), Ok(0));
+    assert_eq!(rt; log.entry(0, 0), 7);
+    assert_eq!(rt; log.entry(0, 1), -8);
+    assert_eq!(rt; Kind::try_from(log.fields(0)), Ok(kind));
+    Ok(())
+}

@@ -62,7 +62,8 @@ may_slim rs rows ls (Cut a k) c f = c.1
 
 passes : (a b c : Bool) → a ≡ true → b ≡ true → c ≡ true →
     answered {A = Unit {0}} (when (not a) Operand ∷ when (not b) Multiplier ∷ when (not c) Mismatch ∷ []) tt ≡ Ok tt
-passes a b c p q r = λ i. answered {A = Unit {0}} (when (not (p i)) Operand ∷ when (not (q i)) Multiplier ∷ when (not (r i)) Mismatch ∷ []) tt
+passes a b c p q r =
+    λ i. answered {A = Unit {0}} (when (not (p i)) Operand ∷ when (not (q i)) Multiplier ∷ when (not (r i)) Mismatch ∷ []) tt
 
 -- a line that is made as its kind says and keeps to its limits is justified
 pub made_justified : (rs : List Range) (rows : List Row) (ls : List Line) (l : Line) → Made rs rows ls l → Slim (length rs) l →

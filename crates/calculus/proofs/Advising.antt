@@ -1,4 +1,5 @@
 -- Laws of advisers: what the three kinds keep to, what a choice is, and that a run leaves an adviser as good as it found it.
+-- It rests on `Reduction`, `Running`, `Stepping` and `Tabling`.
 use Rattle.std.proofs.Common.{◌≡◌, ℕ, zero, suc, ◌+◌, ◌<◌, Bool, true, false, cond, ◌&&◌, eqb, ltb, List, [], ◌∷◌, ◌++◌, map, length, ℤ, Some, None, Ok, Err, Result, sym, refl, ap, ◌∙◌, subst, inl, inr, arith}
 use Rattle.std.specs.List.{AllByRecursion}
 use Rattle.std.proofs.lemmas.List.{length-append, length-map}

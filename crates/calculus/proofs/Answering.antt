@@ -1,4 +1,5 @@
 -- The first refusal that applies has the smallest number, each refusal stands once in the table, and a return undoes its mark.
+-- It rests on the definitions and the library alone.
 use Rattle.std.proofs.Common.{◌≡◌, ℕ, ◌≤◌, Bool, true, false, List, [], ◌∷◌, length, Err, refl, ap, subst, le_trans, arith}
 use Rattle.std.specs.List.{AllByRecursion}
 use Rattle.std.proofs.ByRecursion.{All-weaker}

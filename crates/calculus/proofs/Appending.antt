@@ -1,4 +1,5 @@
 -- A row of the right length is appended to a log just as a run writes it, and the base lines are written one after another.
+-- It rests on the definitions and the library alone.
 use Rattle.std.proofs.Common.{◌≡◌, ℕ, suc, ◌-◌, ◌<◌, ◌≤◌, Bool, true, false, not, eqb, leb, List, [], ◌∷◌, ◌++◌, length, take, pos, sym, refl, ap, ◌∙◌, arith}
 use Rattle.std.proofs.lemmas.List.{append-nil, append_assoc, length-append, take_all, take_at, get_or_at}
 use Rattle.std.proofs.lemmas.Bool.Decides.{nat_tests}
@@ -66,7 +67,8 @@ all_by false capacity l ls held h k later =
 
 all_room : (capacity : ℕ) (ls held : List Line) → length held ≤ capacity →
     written_all capacity ls held ≡ held ++ take (capacity - length held) ls
-all_room capacity [] held k = sym (append-nil held) ∙ ap (λ (t : List Line). held ++ t) (sym (take_all (capacity - length held) [] (omega arith)))
+all_room capacity [] held k =
+    sym (append-nil held) ∙ ap (λ (t : List Line). held ++ t) (sym (take_all (capacity - length held) [] (omega arith)))
 all_room capacity (l ∷ ls) held k = all_by _ capacity l ls held refl k (all_room capacity ls)
 
 start_by_writes : (b : Bool) (c : Context) (a : Advice) → leb (length (base_lines c.ranges c.rows)) c.capacity ≡ b →

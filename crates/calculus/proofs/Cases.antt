@@ -1,4 +1,5 @@
 -- The worked cases on reduced forms, doubles, rounding, ranges and a row met to its end, computed.
+-- It rests on the definitions and the library alone.
 use Rattle.std.proofs.Common.{refl}
 use Rattle.std.specs.Int.Signed.{le_z_yes}
 use Rattle.calculus.specs.Arithmetic.{divisor, divisor_within}

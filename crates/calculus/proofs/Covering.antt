@@ -1,4 +1,5 @@
 -- Covered rows: each of their terms has an entry on the trail that matches it. What keeps a row covered as entries are read or taken off.
+-- It rests on `BetterBounds`, `Firm`, `Ints`, `Leasts` and `Resolving`.
 use Rattle.std.proofs.Common.{◌≡◌, ℕ, zero, suc, ◌<◌, ◌≤◌, Bool, true, false, ◌||◌, ◌⊎◌, List, [], ◌∷◌, length, ℤ, pos, negsuc, ◌+ℤ◌, ◌*ℤ◌, ◌≤ℤ◌, ◌<ℤ◌, sym, refl, ap, ◌∙◌, inl, inr, ⊎_elim, arith, ne_eqb}
 use Rattle.std.proofs.lemmas.Int.{by_lt_z, ints}
 use Rattle.std.proofs.lemmas.Bool.{cases_eq, cases_lt, and_right, or_right, both_ways, false≢true}

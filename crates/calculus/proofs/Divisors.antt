@@ -1,4 +1,5 @@
 -- The greatest common divisor: its two equations, and what it divides.
+-- It rests on the definitions and the library alone.
 use Rattle.std.proofs.Common.{◌≡◌, ℕ, zero, suc, ◌%◌, ◌<◌, ◌≤◌, max, List, [], ◌∷◌, ℤ, pos, nat_abs, fold, sym, refl, ap, ◌∙◌, subst, le_refl, not-suc-le-zero, mod-lt, arith}
 use Prim.Native.Nat.{◌∣◌}
 use Rattle.std.specs.Int.{IsGcd}

@@ -1,4 +1,5 @@
 -- The first place that answers: what is there and what is before it; then the first conflict and the first propagating pair.
+-- It rests on the definitions and the library alone.
 use Rattle.std.proofs.Common.{◌≡◌, ℕ, zero, suc, ◌+◌, ◌<◌, ◌≤◌, Bool, true, false, List, length, Some, None, Option, refl, ap, ◌∙◌, subst, ⊎_elim, arith}
 use Rattle.std.proofs.lemmas.Bool.{cases_eq}
 use Rattle.calculus.specs.Bounds.{Trail, row_at, fails_under, better_under, lowest}

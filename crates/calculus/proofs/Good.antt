@@ -1,4 +1,5 @@
 -- Lines by how they are made: what a right line is but for the limits on its numbers, and those limits apart.
+-- It rests on the definitions and the library alone.
 use Rattle.std.proofs.Common.{◌≡◌, ℕ, ◌<◌, ◌≤◌, true, List, length, take}
 use Rattle.calculus.specs.Checking.{operands, all_below, subject_there, given, all_divide}
 use Rattle.calculus.specs.Limits.{multiplier_limit}

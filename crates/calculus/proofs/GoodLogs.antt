@@ -30,7 +30,8 @@ good_more rs rows ls l good made q less =
     (subst (λ (k : Line). Made rs rows ls k) (sym (get_or_at ls l [] no_line q (sym e))) made))
     (λ (d : q ≡ length ls →
     ⊥). subst (λ (k : List Line). Made rs rows k (line_at (ls ++ l ∷ []) q)) (sym (take-append-le q ls (l ∷ []) (omega arith)))
-    (subst (λ (k : Line). Made rs rows (take q ls) k) (sym (get_or_append_left ls (l ∷ []) no_line q (omega arith))) (good q (omega arith))))
+    (subst (λ (k : Line). Made rs rows (take q ls) k) (sym (get_or_append_left ls (l ∷ []) no_line q (omega arith)))
+    (good q (omega arith))))
     (cases_eq q (length ls))
 
 bare_more : (n : ℕ) (ls : List Line) (l : Line) → ((q : ℕ) → Bare n (line_row ls q)) → Bare n l.row → (q : ℕ) →

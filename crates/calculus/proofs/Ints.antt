@@ -1,4 +1,5 @@
 -- Laws of the whole numbers that the library lacks: products, orders, rounding.
+-- It rests on the definitions and the library alone.
 use Rattle.std.proofs.Common.{◌≡◌, ℕ, zero, suc, ◌*◌, ◌/◌, ◌<◌, ℤ, pos, negsuc, ◌+ℤ◌, ◌*ℤ◌, neg_ℤ, ◌≤ℤ◌, ◌<ℤ◌, ap, ◌∙◌, mod-lt, mul-le-mul_left, div-one, arith}
 use borrow.Author.Differences.{ints, up, down, sum_is_lem, neg_is, product_is, le_out}
 use Rattle.std.proofs.lemmas.Int.{by_lt_z}

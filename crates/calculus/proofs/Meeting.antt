@@ -1,4 +1,5 @@
 -- Within the ranges and meeting rows, place by place and part by part.
+-- It rests on `Reduction`.
 use Rattle.std.proofs.Common.{◌≡◌, ℕ, zero, suc, ◌<◌, List, [], ◌∷◌, ◌++◌, length, get_or, ℤ, ◌≤ℤ◌, sym, refl, ap, subst, arith}
 use Rattle.std.specs.List.{ContainsAt as Has, AllByRecursion}
 use Rattle.std.proofs.ByRecursion.{All-append, All-take, all-has, All-get_or, All-from_get_or, All-weaker}
@@ -40,7 +41,8 @@ pub meets_each : MeetsEach
 meets_each xs rows d =
     (λ h i l. All-get_or (λ s. Meets xs s.row) rows i d l h, λ h. All-from_get_or (λ s. Meets xs s.row) rows d h)
 
-parts : (P : Standing → Type 0) (rows more : List Standing) → AllByRecursion P (rows ++ more) → AllByRecursion P rows × AllByRecursion P more
+parts : (P : Standing → Type 0) (rows more : List Standing) → AllByRecursion P (rows ++ more) →
+    AllByRecursion P rows × AllByRecursion P more
 parts P [] more h = (tt, h)
 parts P (s ∷ rows) more h = let rest = parts P rows more h.1 in ((h.0, rest.0), rest.1)
 

@@ -1,4 +1,5 @@
 -- Multiples of a number among the whole numbers, by remainder and by quotient.
+-- It rests on `Ints`, `Moves`, `Reduction` and `Resolving`.
 use Rattle.std.proofs.Common.{◌≡◌, ℕ, ◌+◌, ◌%◌, ◌<◌, Bool, true, false, eqb, List, ℤ, pos, ◌+ℤ◌, ◌*ℤ◌, nat_abs, sym, refl, ap, ◌∙◌, arith, eq-eqb}
 use Rattle.std.proofs.lemmas.Bool.Decides.{nat_tests}
 use Rattle.std.proofs.lemmas.List.Recursion.{and_from_places}
@@ -34,7 +35,8 @@ pub multiple_mod : (d : ℕ) (z : ℤ) → nat_abs z % d ≡ 0 → Multiple d z
 multiple_mod d z h = let q = quotient d z (dvd_of_mod-eq-zero d h) in record { by = q.0; is = q.1 }
 
 pub mod_multiple : (d : ℕ) (z : ℤ) → Multiple d z → nat_abs z % d ≡ 0
-mod_multiple d z m = ap (λ (k : ℤ). nat_abs k % d) m.is ∙ ap (λ (k : ℕ). k % d) (unsigned_abs-mul (pos d) m.by) ∙ mul-mod_right d (nat_abs m.by)
+mod_multiple d z m =
+    ap (λ (k : ℤ). nat_abs k % d) m.is ∙ ap (λ (k : ℕ). k % d) (unsigned_abs-mul (pos d) m.by) ∙ mul-mod_right d (nat_abs m.by)
 
 -- dividing a multiple and multiplying again
 pub multiple_floor : (d : ℕ) (z : ℤ) → 0 < d → Multiple d z → pos d *ℤ floor z d ≡ z

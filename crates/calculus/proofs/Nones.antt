@@ -28,7 +28,8 @@ use Rattle.calculus.proofs.SoundLogs.{good_excludes}
 use Rattle.calculus.proofs.Starting.{FitContext, whole_well}
 
 -- rows with one coefficient for each unknown have none past the unknowns
-pub thin_rows : (n : ℕ) (rows : List Standing) → AllByRecursion (λ s. length s.row.coefs ≡ n) rows → (p : ℕ) → Bare n (row_at (rows_of rows) p)
+pub thin_rows : (n : ℕ) (rows : List Standing) → AllByRecursion (λ s. length s.row.coefs ≡ n) rows → (p : ℕ) →
+    Bare n (row_at (rows_of rows) p)
 thin_rows n [] h p y l = refl
 thin_rows n (s ∷ rows) h zero y l = let e = h.0 in get_or_past s.row.coefs y (pos 0) (omega arith)
 thin_rows n (s ∷ rows) h (suc p) y l = thin_rows n rows h.1 p y l
@@ -42,7 +43,8 @@ phase_sound (ended NoPlan) c t ls w = w.0
 phase_sound (ended (Refused r)) c t ls w = w
 
 -- slim lines with fitting fields fit
-lines_fit : (n : ℕ) (ls : List Line) → AllByRecursion (Slim n) ls → AllByRecursion (λ l. FieldsFit l.fields) ls → AllByRecursion (LineFits n) ls
+lines_fit : (n : ℕ) (ls : List Line) → AllByRecursion (Slim n) ls → AllByRecursion (λ l. FieldsFit l.fields) ls →
+    AllByRecursion (LineFits n) ls
 lines_fit n [] s f = tt
 lines_fit n (l ∷ ls) s f = ((f.0, s.0.shaped, s.0.fit), lines_fit n ls s.1 f.1)
 

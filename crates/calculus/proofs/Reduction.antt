@@ -1,4 +1,5 @@
 -- Reduced forms: they divide, the same assignments meet them, and doubles are told by them.
+-- It rests on `Divisors` and `Ints`.
 use Rattle.std.proofs.Common.{◌≡◌, ℕ, zero, suc, ◌/◌, ◌<◌, List, [], ◌∷◌, map, length, ℤ, pos, negsuc, ◌+ℤ◌, ◌*ℤ◌, neg_ℤ, nat_abs, ◌≤ℤ◌, Decides, sym, refl, ap, ◌∙◌, subst, arith}
 use Prim.Native.Nat.{◌∣◌}
 use Rattle.std.specs.List.{AllByRecursion}
@@ -25,7 +26,8 @@ floor_exact g c p d =
     let q = quotient g c d in
     ap (λ (z : ℤ). pos g *ℤ floor z g) q.1 ∙ ap (λ (z : ℤ). pos g *ℤ z) (floor_times q.0 g p) ∙ sym q.1
 
-divided : (g : ℕ) (cs : List ℤ) (i : ℕ) → 0 < g → AllByRecursion (λ c. g ∣ nat_abs c) cs → pos g *ℤ coef (map (λ c. floor c g) cs) i ≡ coef cs i
+divided : (g : ℕ) (cs : List ℤ) (i : ℕ) → 0 < g → AllByRecursion (λ c. g ∣ nat_abs c) cs →
+    pos g *ℤ coef (map (λ c. floor c g) cs) i ≡ coef cs i
 divided g [] i p h = *ℤ-zero (pos g)
 divided g (c ∷ cs) zero p h = floor_exact g c p h.0
 divided g (c ∷ cs) (suc i) p h = divided g cs i p h.1

@@ -169,7 +169,8 @@ slim_of : (n : ℕ) (k : Kind) (r : Row) → Small n r → (fields_of k).k ≤ m
     Slim n (record { fields = fields_of k; row = r })
 slim_of n k r s p q = record { shaped = s.long; fit = small_fits n r s; k_fits = p; m_fits = q }
 
-written_by_slim : (n : ℕ) (b : Bool) (l : Line) (ls : List Line) → Slim n l → AllByRecursion (Slim n) ls → AllByRecursion (Slim n) (written_by b l ls).1
+written_by_slim : (n : ℕ) (b : Bool) (l : Line) (ls : List Line) → Slim n l → AllByRecursion (Slim n) ls →
+    AllByRecursion (Slim n) (written_by b l ls).1
 written_by_slim n true l ls s h = h
 written_by_slim n false l ls s h = All-push (Slim n) ls l h s
 
@@ -183,7 +184,8 @@ abbrev Narrow : ℕ → Narrowing → Type 0
 Narrow n (going row part line ls) = Small n row × Small n part × AllByRecursion (Slim n) ls
 Narrow n (stopped r ls) = AllByRecursion (Slim n) ls
 
-outcome_slim : (n : ℕ) (w : Written) (row part : Row) → Small n row → Small n part → AllByRecursion (Slim n) w.1 → Narrow n (outcome w row part)
+outcome_slim : (n : ℕ) (w : Written) (row part : Row) → Small n row → Small n part → AllByRecursion (Slim n) w.1 →
+    Narrow n (outcome w row part)
 outcome_slim n (Ok line, ls) row part s t h = (s, t, h)
 outcome_slim n (Err r, ls) row part s t h = h
 
@@ -292,7 +294,8 @@ decide_by_slim : (n : ℕ) (less : Bool) (c : Context) (m : Machine) (x : ℕ) (
 decide_by_slim n true c m x s h = (h, tt)
 decide_by_slim n false c m x s h = (h, tt)
 
-look_choice_slim : (n : ℕ) (o : Option (ℕ × Side)) (c : Context) (m : Machine) → AllByRecursion (Slim n) m.lines → Stays n (look_choice o c m)
+look_choice_slim : (n : ℕ) (o : Option (ℕ × Side)) (c : Context) (m : Machine) → AllByRecursion (Slim n) m.lines →
+    Stays n (look_choice o c m)
 look_choice_slim n None c m h = (h, tt)
 look_choice_slim n (Some (x, s)) c m h = decide_by_slim n (ltb (length m.trail) most_entries) c m x s h
 
@@ -423,7 +426,8 @@ range_lines_slim rs (suc x) h l =
     (small_lone n x (pos 1) (neg_ℤ (range_at rs x).high) (omega arith) (omega (arith, ints))) (omega arith) (omega arith) in
     All-append (Slim n) (range_lines rs x) _ (range_lines_slim rs x h (omega arith)) (first, (second, tt))
 
-row_lines_slim : (n : ℕ) (rows : List Row) (k : ℕ) → AllByRecursion (Small n) rows → k ≤ length rows → AllByRecursion (Slim n) (row_lines rows k)
+row_lines_slim : (n : ℕ) (rows : List Row) (k : ℕ) → AllByRecursion (Small n) rows → k ≤ length rows →
+    AllByRecursion (Slim n) (row_lines rows k)
 row_lines_slim n rows zero h l = tt
 row_lines_slim n rows (suc p) h l =
     All-push (Slim n) (row_lines rows p) (line_of (Placed p) (row_at rows p)) (row_lines_slim n rows p h (omega arith))
@@ -460,7 +464,8 @@ heavy_lean (c ∷ cs) h =
     let l = leb-true (nat_abs c) added_coefficient_limit (not-false (near added_coefficient_limit c) both.0) in
     (omega arith, heavy_lean cs both.1)
 
-small_rows : (n : ℕ) (rows : List Standing) → AllByRecursion (λ s. length s.row.coefs ≡ n) rows → AllByRecursion (λ s. heavy s.row.coefs ≡ false) rows →
+small_rows : (n : ℕ) (rows : List Standing) → AllByRecursion (λ s. length s.row.coefs ≡ n) rows →
+    AllByRecursion (λ s. heavy s.row.coefs ≡ false) rows →
     AllByRecursion (λ s. near added_constant_limit s.row.constant ≡ true) rows → AllByRecursion (Small n) (rows_of rows)
 small_rows n [] p q r = tt
 small_rows n (s ∷ rows) p q r =

@@ -1,5 +1,6 @@
 -- A step that is no move leaves the trail or what is below its top, goes on to repair or to an end, and finds a plan only where no row
 -- fails and no unknown is chosen. One lemma for each function of the machine; nothing is asked of the lines.
+-- It rests on the definitions and the library alone.
 use Rattle.std.proofs.Common.{◌≡◌, ℕ, Bool, true, false, ltb, leb, ◌⊎◌, List, [], ◌∷◌, length, nat_abs, Some, None, Ok, Err, Option, sym, refl, ap, subst, inl, inr}
 use Rattle.calculus.specs.Advice.{Advice, choice, told}
 use Rattle.calculus.specs.Arithmetic.{common}

@@ -142,5 +142,6 @@ pub record DayKept (rs : List Range) (es : List Event) (b : Account) : Type 0 wh
 
 -- the whole day
 abbrev pub DayRight : Type 0
-DayRight = (rs : List Range) (es : List Event) (b : Account) → FitRanges rs → Leads (settled rs) es b → AllByRecursion (λ e. Fair e.call) es →
+DayRight = (rs : List Range) (es : List Event) (b : Account) → FitRanges rs → Leads (settled rs) es b →
+    AllByRecursion (λ e. Fair e.call) es →
     DayKept rs es b

@@ -14,17 +14,13 @@ use Rattle.calculus.specs.Tables.{picked}
 use Rattle.calculus.specs.declared.sides.Side.{Side}
 use Rattle.calculus.specs.declared.sides.Side.TheVariants.{Low, High}
 use Rattle.calculus.specs.declared.trails.Bound.{Bound}
-use Rattle.calculus.proofs.Ints.{mul_neg, times_le, floor_rounds}
+use Rattle.calculus.proofs.Ints.{times_le, floor_rounds, turned_times}
 
 pub here_same : {Y : Type 0} (x : ℕ) (a b : Y) → here_or (eqb x x) a b ≡ a
 here_same x a b = ap (λ (t : Bool). here_or t a b) (eq-eqb x x refl)
 
 pub here_other : {Y : Type 0} (x y : ℕ) (a b : Y) → (x ≡ y → ⊥) → here_or (eqb y x) a b ≡ b
 here_other x y a b n = ap (λ (t : Bool). here_or t a b) (ne_eqb y x (λ e. n (sym e)))
-
--- what holds at x and at each other place holds everywhere
-pub at_each : (P : ℕ → Type 0) (x : ℕ) → P x → ((i : ℕ) → (x ≡ i → ⊥) → P i) → (i : ℕ) → P i
-at_each P x here else i = ⊎_elim (λ (e : x ≡ i). subst P e here) (λ (d : x ≡ i → ⊥). else i d) (cases_eq x i)
 
 pub sum_same : (n : ℕ) (f g : ℕ → ℤ) → ((i : ℕ) → i < n → f i ≡ g i) → sum n f ≡ sum n g
 sum_same zero f g h = refl
@@ -133,9 +129,6 @@ fits_floor k rest u p f =
 -- no number fits where the one before it does not
 no_step_back : (k : ℕ) (rest u : ℤ) → (rest +ℤ pos k *ℤ u) ≤ℤ pos 0 → pos 0 <ℤ (rest +ℤ pos k *ℤ (u -ℤ pos 1)) → ⊥
 no_step_back k rest u f g = let t = times_le k (u -ℤ pos 1) u (omega (arith, ints)) in omega (arith, ints)
-
-turned_times : (a : ℕ) (v u : ℤ) → u ≡ neg_ℤ v → negsuc a *ℤ v ≡ pos (suc a) *ℤ u
-turned_times a v u e = let m = mul_neg (pos (suc a)) v in let n = ap (λ (z : ℤ). pos (suc a) *ℤ z) e in omega (arith, ints)
 
 -- the next value on the way to side s
 abbrev ahead : Side → ℤ → ℤ

@@ -11,9 +11,9 @@ use Rattle.calculus.specs.declared.ranges.Range.{Range}
 use Rattle.calculus.specs.declared.sides.Side.{Side}
 use Rattle.calculus.specs.declared.sides.Side.TheVariants.{Low, High}
 use Rattle.calculus.specs.declared.trails.Entry.{Entry}
-use Rattle.calculus.proofs.BetterBounds.{at_each, coef_without}
+use Rattle.calculus.proofs.BetterBounds.{coef_without}
 use Rattle.calculus.proofs.Firm.{on_is}
-use Rattle.calculus.proofs.Ints.{mul_neg, times_le}
+use Rattle.calculus.proofs.Ints.{mul_neg, times_le, at_each}
 use Rattle.calculus.proofs.Leasts.{coef_plus, floor_zero, coef_cut, coef_else}
 use Rattle.calculus.proofs.Resolving.{toward, by_match}
 

@@ -11,10 +11,10 @@ use Rattle.calculus.specs.declared.ranges.Range.{Range}
 use Rattle.calculus.specs.declared.sides.Side.{Side}
 use Rattle.calculus.specs.declared.sides.Side.TheVariants.{Low, High}
 use Rattle.calculus.specs.declared.trails.Entry.{Entry}
-use Rattle.calculus.proofs.BetterBounds.{at_each, here_same, here_other, sum_same, sum_only, coef_without, term_at}
+use Rattle.calculus.proofs.BetterBounds.{here_same, here_other, sum_same, sum_only, coef_without, term_at}
 use Rattle.calculus.proofs.Covering.{Covered, CoveredBut, Bare, covered_past, covered_sum}
 use Rattle.calculus.proofs.Firm.{end_at, end_own, end_across, end_other}
-use Rattle.calculus.proofs.Ints.{times_sum}
+use Rattle.calculus.proofs.Ints.{times_sum, at_each}
 use Rattle.calculus.proofs.Leasts.{coef_plus, coef_else}
 use Rattle.calculus.proofs.Multiples.{Multiple, multiple_plus}
 use Rattle.calculus.proofs.Resolving.{unit, Tight, SameBut, match_cancel, resolve_least, unmatched_least, aside_least}

@@ -1,14 +1,14 @@
 -- The greatest common divisor: its two equations, and what it divides.
--- It rests on the definitions and the library alone.
-use Rattle.std.proofs.Common.{◌≡◌, ℕ, zero, suc, ◌%◌, ◌<◌, ◌≤◌, max, List, [], ◌∷◌, ℤ, pos, nat_abs, fold, sym, refl, ap, ◌∙◌, subst, le_refl, not-suc-le-zero, mod-lt, arith}
+-- It rests on `Ints`.
+use Rattle.std.proofs.Common.{◌≡◌, ℕ, zero, suc, ◌%◌, ◌<◌, ◌≤◌, max, List, [], ◌∷◌, ℤ, pos, nat_abs, fold, refl, ap, ◌∙◌, le_refl, not-suc-le-zero, mod-lt, arith}
 use Prim.Native.Nat.{◌∣◌}
 use Rattle.std.specs.Int.{IsGcd}
 use Rattle.std.proofs.lemmas.Nat.Gcd.{dvd_refl, dvd-zero, dvd_trans, IsGcd-from_zero, IsGcd-from_mod, same_from_IsGcd}
 use Rattle.std.specs.List.{AllByRecursion}
 use Rattle.std.proofs.ByRecursion.{All-weaker}
-use Rattle.std.proofs.Math.Nat.{one-dvd}
 use Rattle.calculus.specs.Arithmetic.{divisor_within, divisor, common}
 use Rattle.calculus.specs.Rows.{row_divisor}
+use Rattle.calculus.proofs.Ints.{max_one}
 
 -- calls enough for the second number give the greatest common divisor
 gcd_within : (calls a b : ℕ) → b ≤ calls → IsGcd a b (divisor_within calls a b)
@@ -57,10 +57,6 @@ onward_greatest d g (c ∷ cs) p q = onward_greatest d (divisor g (nat_abs c)) c
 
 pub common_greatest : (d : ℕ) (cs : List ℤ) → AllByRecursion (λ c. d ∣ nat_abs c) cs → d ∣ common cs
 common_greatest d cs q = onward_greatest d 0 cs (dvd-zero d) q
-
-max_one : (g n : ℕ) → g ∣ n → max 1 g ∣ n
-max_one zero n h = one-dvd n
-max_one (suc g) n h = let e : max 1 (suc g) ≡ suc g = omega arith in subst (λ (m : ℕ). m ∣ n) (sym e) h
 
 -- the row's divisor divides each coefficient
 pub row_divides : (cs : List ℤ) → AllByRecursion (λ c. row_divisor cs ∣ nat_abs c) cs

@@ -1,12 +1,14 @@
--- Laws of the whole numbers that the library lacks: products, orders, rounding.
+-- Laws of whole numbers and of lists of them that the library lacks: products, orders, rounding, remainders.
 -- It rests on the definitions and the library alone.
-use Rattle.std.proofs.Common.{◌≡◌, ℕ, zero, suc, ◌*◌, ◌/◌, ◌<◌, ℤ, pos, negsuc, ◌+ℤ◌, ◌*ℤ◌, neg_ℤ, ◌≤ℤ◌, ◌<ℤ◌, ap, ◌∙◌, mod-lt, mul-le-mul_left, div-one, arith}
+use Rattle.std.proofs.Common.{◌≡◌, ℕ, zero, suc, ◌*◌, ◌/◌, ◌<◌, ℤ, pos, negsuc, ◌+ℤ◌, ◌*ℤ◌, neg_ℤ, ◌≤ℤ◌, ◌<ℤ◌, ap, ◌∙◌, mod-lt, mul-le-mul_left, div-one, arith, ⊎_elim, subst, sym, max, ◌+◌, ◌-◌, ◌%◌, ◌^◌, ◌≤◌, List, [], ◌∷◌, map, nat_abs, refl, mod-eq_of_lt, mul-lt-mul_of_pos_right, pow-suc, mul_comm, ◌-ℤ◌}
 use borrow.Author.Differences.{ints, up, down, sum_is_lem, neg_is, product_is, le_out}
 use Rattle.std.proofs.lemmas.Int.{by_lt_z}
-use Rattle.std.proofs.Math.Nat.{div-add-mod}
+use Rattle.std.proofs.Math.Nat.{div-add-mod, one-dvd, one-le-pow, mul-div_cancel', add-mod-mod, mod-add-mod, mod_self, mod-le}
 use Rattle.std.proofs.Math.IntN.{*ℤ_comm}
 use Rattle.std.specs.Int.Signed.{clash_ℤ}
 use Rattle.calculus.specs.Arithmetic.{floor, ceiling, sum}
+use Rattle.std.proofs.lemmas.Bool.{cases_lt, cases_eq}
+use Prim.Native.Nat.{◌∣◌}
 
 times : (k : ℕ) {a b : ℕ} → a ≡ b → k * a ≡ k * b
 times k e = ap (λ n. k * n) e
@@ -118,3 +120,68 @@ rounded_back g s c p h =
 pub sum_times : (n : ℕ) (k : ℤ) (f g : ℕ → ℤ) → ((i : ℕ) → f i ≡ k *ℤ g i) → sum n f ≡ k *ℤ sum n g
 sum_times zero k f g h = omega (arith, ints)
 sum_times (suc n) k f g h = let e = sum_times n k f g h in let d = distrib k (sum n g) (g n) in let l = h n in omega (arith, ints)
+
+-- what holds at x and at each other place holds everywhere
+pub at_each : (P : ℕ → Type 0) (x : ℕ) → P x → ((i : ℕ) → (x ≡ i → ⊥) → P i) → (i : ℕ) → P i
+at_each P x here else i = ⊎_elim (λ (e : x ≡ i). subst P e here) (λ (d : x ≡ i → ⊥). else i d) (cases_eq x i)
+
+pub turned_times : (a : ℕ) (v u : ℤ) → u ≡ neg_ℤ v → negsuc a *ℤ v ≡ pos (suc a) *ℤ u
+turned_times a v u e = let m = mul_neg (pos (suc a)) v in let n = ap (λ (z : ℤ). pos (suc a) *ℤ z) e in omega (arith, ints)
+
+pub max_one : (g n : ℕ) → g ∣ n → max 1 g ∣ n
+max_one zero n h = one-dvd n
+max_one (suc g) n h = let e : max 1 (suc g) ≡ suc g = omega arith in subst (λ (m : ℕ). m ∣ n) (sym e) h
+
+pub neg_times_le : (a : ℕ) (u v : ℤ) → u ≤ℤ v → (negsuc a *ℤ v) ≤ℤ (negsuc a *ℤ u)
+neg_times_le a u v h =
+    let t = times_le (suc a) u v h in
+    omega (arith, ints)
+
+pub mixed : (a b v : ℤ) (m : ℕ) → (a +ℤ pos m *ℤ b) *ℤ v ≡ a *ℤ v +ℤ pos m *ℤ (b *ℤ v)
+mixed a b v m = times_sum a (pos m *ℤ b) v ∙ ap (λ (z : ℤ). a *ℤ v +ℤ z) (assoc (pos m) b v)
+
+pub lacking_fills : (d a : ℕ) → 0 < d → (a + (d - a % d) % d) % d ≡ 0
+lacking_fills d a p =
+    let l = mod-lt a p in
+    let e : a % d + (d - a % d) ≡ d = omega arith in
+    add-mod-mod a (d - a % d) d ∙ sym (mod-add-mod a d (d - a % d)) ∙ ap (λ (n : ℕ). n % d) e ∙ mod_self d
+
+pub lacking_least : (d a m : ℕ) → 0 < d → (a + m) % d ≡ 0 → (d - a % d) % d ≤ m
+lacking_least d a m p h =
+    let l = mod-lt a p in
+    let r = mod-add-mod a d m in
+    ⊎_elim
+    (λ (k : a % d + m < d). let s = mod-eq_of_lt k in
+    let e : d - a % d ≡ d = omega arith in
+    let f = ap (λ (n : ℕ). n % d) e in
+    let z = mod_self d in
+    omega arith)
+    (λ k. let s = mod-le (d - a % d) d in omega arith)
+    (cases_lt (a % d + m) d)
+
+-- once a row
+pub once : (cs : List ℤ) → map (λ c. pos 1 *ℤ c) cs ≡ cs
+once [] = refl
+once (c ∷ cs) = λ i. (let e : pos 1 *ℤ c ≡ c = omega (arith, ints) in e) i ∷ once cs i
+
+-- ends that moved inwards are no further apart
+pub narrower : (lo hi lo' hi' : ℤ) → lo ≤ℤ lo' → hi' ≤ℤ hi → lo' ≤ℤ hi' → nat_abs (hi' -ℤ lo') ≤ nat_abs (hi -ℤ lo)
+narrower lo hi lo' hi' a b c = omega (arith, ints)
+
+-- a digit counts for less than one of the next place
+pub digit_below : (b w k : ℕ) → suc w < b → suc w * b ^ k < b ^ suc k
+digit_below b w k h =
+    let a = one-le-pow k b (omega arith) in
+    let c : suc w * b ^ k < b * b ^ k = mul-lt-mul_of_pos_right h a in
+    let d = pow-suc b k in
+    let e = mul_comm b (b ^ k) in
+    omega arith
+
+-- a number is its divisor times a quotient
+pub quotient : (g : ℕ) (c : ℤ) → g ∣ nat_abs c → (q : ℤ) × (c ≡ pos g *ℤ q)
+quotient g (pos a) d = (pos (a / g), let e = mul-div_cancel' g d in omega (arith, ints))
+quotient g (negsuc a) d = (
+  neg_ℤ (pos (suc a / g)),
+  let e = mul-div_cancel' g d in let m = mul_neg (pos g) (pos (suc a / g)) in omega
+      (arith, ints),
+)

@@ -10,7 +10,7 @@ use Rattle.calculus.specs.Rows.{Row, coef, cut}
 use Rattle.calculus.specs.Runs.{lone}
 use Rattle.calculus.specs.Tightening.{added_coefs, plus}
 use Rattle.calculus.proofs.BetterBounds.{least_split}
-use Rattle.calculus.proofs.Ints.{distrib, times_sum, assoc, times_le, floor_times, ceiling_rounds, sum_times}
+use Rattle.calculus.proofs.Ints.{distrib, assoc, times_le, floor_times, ceiling_rounds, sum_times, neg_times_le, mixed}
 
 -- ---- sums
 
@@ -82,11 +82,6 @@ lone_else n x i a k d = get_or-set_other (replicate n (pos 0)) x i a (pos 0) (λ
 
 -- ---- terms
 
-neg_times_le : (a : ℕ) (u v : ℤ) → u ≤ℤ v → (negsuc a *ℤ v) ≤ℤ (negsuc a *ℤ u)
-neg_times_le a u v h =
-    let t = times_le (suc a) u v h in
-    omega (arith, ints)
-
 -- the least value of a term is not above its value anywhere between the ends
 pub term_below : (a lo hi v : ℤ) → lo ≤ℤ v → v ≤ℤ hi → term a lo hi ≤ℤ (a *ℤ v)
 term_below (pos a) lo hi v l h = times_le a lo v l
@@ -101,9 +96,6 @@ term_reached (negsuc a) lo hi = inr refl
 pub term_narrows : (a lo hi lo' hi' : ℤ) → lo ≤ℤ lo' → hi' ≤ℤ hi → term a lo hi ≤ℤ term a lo' hi'
 term_narrows (pos a) lo hi lo' hi' l h = times_le a lo lo' l
 term_narrows (negsuc a) lo hi lo' hi' l h = neg_times_le a hi' hi h
-
-pub mixed : (a b v : ℤ) (m : ℕ) → (a +ℤ pos m *ℤ b) *ℤ v ≡ a *ℤ v +ℤ pos m *ℤ (b *ℤ v)
-mixed a b v m = times_sum a (pos m *ℤ b) v ∙ ap (λ (z : ℤ). a *ℤ v +ℤ z) (assoc (pos m) b v)
 
 super_at : (a b lo hi v : ℤ) (m : ℕ) → lo ≤ℤ v → v ≤ℤ hi → term (a +ℤ pos m *ℤ b) lo hi ≡ (a +ℤ pos m *ℤ b) *ℤ v →
     (term a lo hi +ℤ pos m *ℤ term b lo hi) ≤ℤ term (a +ℤ pos m *ℤ b) lo hi

@@ -1,9 +1,8 @@
 -- What a move is: the number of times a partner is added, what a decision fixes, and each move one of three and only one.
--- It rests on `BetterBounds` and `Leasts`.
-use Rattle.std.proofs.Common.{◌≡◌, ℕ, zero, suc, ◌+◌, ◌-◌, ◌%◌, ◌<◌, ◌≤◌, Bool, true, false, ltb, leb, ◌⊎◌, List, [], ◌∷◌, map, length, ℤ, pos, negsuc, ◌+ℤ◌, ◌*ℤ◌, nat_abs, Some, None, Ok, Err, Option, sym, refl, ap, ◌∙◌, subst, inl, inr, ⊎_elim, mod-lt, mod-eq_of_lt, arith}
-use Rattle.std.proofs.lemmas.Bool.{ltb-true, lt-ltb, cases_lt}
+-- It rests on `BetterBounds`, `Leasts` and `Ints`.
+use Rattle.std.proofs.Common.{◌≡◌, ℕ, zero, suc, ◌+◌, ◌%◌, ◌<◌, Bool, true, false, ltb, leb, ◌⊎◌, List, [], ◌∷◌, map, length, ℤ, pos, negsuc, ◌+ℤ◌, ◌*ℤ◌, nat_abs, Some, None, Ok, Err, Option, sym, refl, ap, ◌∙◌, subst, inl, inr, arith}
+use Rattle.std.proofs.lemmas.Bool.{ltb-true, lt-ltb}
 use Rattle.std.proofs.lemmas.Nat.Gcd.{dvd_of_mod-eq-zero, mod-eq-zero_of_dvd}
-use Rattle.std.proofs.Math.Nat.{mod-le, mod_self, mod-add-mod, add-mod-mod}
 use Rattle.std.proofs.lemmas.Int.{ints}
 use Rattle.calculus.specs.Advice.{Advice, choice, told}
 use Rattle.calculus.specs.Arithmetic.{common}
@@ -25,25 +24,7 @@ use Rattle.calculus.specs.declared.trails.Bound.{Bound}
 use Rattle.calculus.specs.declared.trails.Entry.{Entry}
 use Rattle.calculus.proofs.BetterBounds.{here_same, here_other}
 use Rattle.calculus.proofs.Leasts.{coef_plus}
-
-pub lacking_fills : (d a : ℕ) → 0 < d → (a + (d - a % d) % d) % d ≡ 0
-lacking_fills d a p =
-    let l = mod-lt a p in
-    let e : a % d + (d - a % d) ≡ d = omega arith in
-    add-mod-mod a (d - a % d) d ∙ sym (mod-add-mod a d (d - a % d)) ∙ ap (λ (n : ℕ). n % d) e ∙ mod_self d
-
-lacking_least : (d a m : ℕ) → 0 < d → (a + m) % d ≡ 0 → (d - a % d) % d ≤ m
-lacking_least d a m p h =
-    let l = mod-lt a p in
-    let r = mod-add-mod a d m in
-    ⊎_elim
-    (λ (k : a % d + m < d). let s = mod-eq_of_lt k in
-    let e : d - a % d ≡ d = omega arith in
-    let f = ap (λ (n : ℕ). n % d) e in
-    let z = mod_self d in
-    omega arith)
-    (λ k. let s = mod-le (d - a % d) d in omega arith)
-    (cases_lt (a % d + m) d)
+use Rattle.calculus.proofs.Ints.{lacking_fills, lacking_least, once}
 
 -- a partner moves the coefficient by 1, away from 0
 partner_moves : (c u : ℤ) (m : ℕ) → Partners c u → nat_abs (c +ℤ pos m *ℤ u) ≡ nat_abs c + m
@@ -59,11 +40,6 @@ least_number d part partner y p h =
       dvd_of_mod-eq-zero _ (ap (λ (n : ℕ). n % d) (moved_to (lacking d c)) ∙ lacking_fills d (nat_abs c) p),
       λ k g. lacking_least d (nat_abs c) k p (ap (λ (n : ℕ). n % d) (sym (moved_to k)) ∙ mod-eq-zero_of_dvd _ g),
     )
-
--- once a row
-once : (cs : List ℤ) → map (λ c. pos 1 *ℤ c) cs ≡ cs
-once [] = refl
-once (c ∷ cs) = λ i. (let e : pos 1 *ℤ c ≡ c = omega (arith, ints) in e) i ∷ once cs i
 
 pub plus_is_sum : PlusIsSum
 plus_is_sum p m q = λ i. record {

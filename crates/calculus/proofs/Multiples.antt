@@ -1,5 +1,5 @@
 -- Multiples of a number among the whole numbers, by remainder and by quotient.
--- It rests on `Ints`, `Moves`, `Reduction` and `Resolving`.
+-- It rests on `Ints` and `Resolving`.
 use Rattle.std.proofs.Common.{◌≡◌, ℕ, ◌+◌, ◌%◌, ◌<◌, Bool, true, false, eqb, List, ℤ, pos, ◌+ℤ◌, ◌*ℤ◌, nat_abs, sym, refl, ap, ◌∙◌, arith, eq-eqb}
 use Rattle.std.proofs.lemmas.Bool.Decides.{nat_tests}
 use Rattle.std.proofs.lemmas.List.Recursion.{and_from_places}
@@ -13,9 +13,7 @@ use Rattle.calculus.specs.Checking.{all_divide}
 use Rattle.calculus.specs.Rows.{coef}
 use Rattle.calculus.specs.Tightening.{matches, lacking, left_open}
 use Rattle.calculus.specs.declared.sides.Side.{Side}
-use Rattle.calculus.proofs.Ints.{distrib, floor_times}
-use Rattle.calculus.proofs.Moves.{lacking_fills}
-use Rattle.calculus.proofs.Reduction.{quotient}
+use Rattle.calculus.proofs.Ints.{distrib, floor_times, lacking_fills, quotient}
 use Rattle.calculus.proofs.Resolving.{unit, by_match}
 
 -- z is a multiple of d.

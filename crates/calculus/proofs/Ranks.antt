@@ -2,7 +2,7 @@
 -- It rests on the firm trail alone. Take the widths at the ends of the segments between decisions as digits in base W + 2, the first the
 -- most significant, and W + 1 for each of the n + 1 segments that is not open: the potential is that number and one more.
 use Rattle.std.specs.Prelude.{None, Option, Some}
-use Rattle.std.proofs.Common.{◌≡◌, ℕ, zero, suc, ◌+◌, ◌-◌, ◌*◌, ◌^◌, ◌<◌, ◌≤◌, min, List, [], ◌∷◌, length, ℤ, ◌-ℤ◌, nat_abs, ◌≤ℤ◌, ◌<ℤ◌, sym, refl, ap, ◌∙◌, subst, ⊎_elim, mul-le-mul_right, suc-mul, mul_comm, mul-lt-mul_of_pos_right, pow-suc, arith}
+use Rattle.std.proofs.Common.{◌≡◌, ℕ, zero, suc, ◌+◌, ◌-◌, ◌*◌, ◌^◌, ◌<◌, ◌≤◌, min, List, [], ◌∷◌, length, ℤ, ◌-ℤ◌, nat_abs, ◌<ℤ◌, sym, refl, ap, ◌∙◌, subst, ⊎_elim, mul-le-mul_right, suc-mul, arith}
 use Rattle.std.proofs.lemmas.Bool.{cases_eq}
 use Rattle.std.proofs.Math.Nat.{one-le-pow}
 use Rattle.std.proofs.lemmas.Int.{ints}
@@ -19,6 +19,7 @@ use Rattle.calculus.proofs.Running.{range_entries_long}
 use Rattle.calculus.proofs.Firm.{InOrder, Sits, Firm, end_own, end_across, low_rises, high_falls, sits_order, firm_order, firm_inward}
 use Rattle.calculus.proofs.Firm.{low_entry, implied, start_firm, decided_nearer, decided_sits}
 use Rattle.calculus.proofs.BetterBounds.{Nearer}
+use Rattle.calculus.proofs.Ints.{narrower, digit_below}
 
 -- ---- totals
 
@@ -65,10 +66,6 @@ wide rs t = total (length rs) (room rs t)
 pub wide_first : (rs : List Range) → wide rs [] ≡ width rs
 wide_first [] = refl
 wide_first (r ∷ rs) = let e = wide_first rs in let f = total_first (length rs) (room (r ∷ rs) []) in omega arith
-
--- ends that moved inwards are no further apart
-narrower : (lo hi lo' hi' : ℤ) → lo ≤ℤ lo' → hi' ≤ℤ hi → lo' ≤ℤ hi' → nat_abs (hi' -ℤ lo') ≤ nat_abs (hi -ℤ lo)
-narrower lo hi lo' hi' a b c = omega (arith, ints)
 
 -- and closer together where one of them moved
 narrower_by : (s : Side) (lo hi lo' hi' v : ℤ) → Nearer s lo hi v → decided_value s lo' hi' ≡ v →
@@ -171,15 +168,6 @@ stake rs t = base rs ^ (length rs - decisions t)
 
 stake_some : (rs : List Range) (t : Trail) → 0 < stake rs t
 stake_some rs t = one-le-pow (length rs - decisions t) (base rs) (omega arith)
-
--- a digit counts for less than one of the next place
-digit_below : (b w k : ℕ) → suc w < b → suc w * b ^ k < b ^ suc k
-digit_below b w k h =
-    let a = one-le-pow k b (omega arith) in
-    let c : suc w * b ^ k < b * b ^ k = mul-lt-mul_of_pos_right h a in
-    let d = pow-suc b k in
-    let e = mul_comm b (b ^ k) in
-    omega arith
 
 -- something more where the entry is decided
 abbrev past_by : Option ℕ → ℕ → ℕ → ℕ

@@ -1,25 +1,15 @@
 -- Reduced forms: they divide, the same assignments meet them, and doubles are told by them.
 -- It rests on `Divisors` and `Ints`.
-use Rattle.std.proofs.Common.{◌≡◌, ℕ, zero, suc, ◌/◌, ◌<◌, List, [], ◌∷◌, map, length, ℤ, pos, negsuc, ◌+ℤ◌, ◌*ℤ◌, neg_ℤ, nat_abs, ◌≤ℤ◌, Decides, sym, refl, ap, ◌∙◌, subst, arith}
+use Rattle.std.proofs.Common.{◌≡◌, ℕ, zero, suc, ◌<◌, List, [], ◌∷◌, map, length, ℤ, pos, ◌+ℤ◌, ◌*ℤ◌, nat_abs, ◌≤ℤ◌, Decides, sym, refl, ap, ◌∙◌, subst, arith}
 use Prim.Native.Nat.{◌∣◌}
 use Rattle.std.specs.List.{AllByRecursion}
 use Rattle.std.proofs.lemmas.Bool.Decides.{Decides-and}
-use Rattle.std.proofs.Math.Nat.{mul-div_cancel'}
 use Rattle.std.proofs.Math.IntN.{*ℤ-zero}
 use Rattle.std.proofs.lemmas.Int.{ints}
 use Rattle.calculus.specs.Arithmetic.{sum, floor, ceiling, same_number}
 use Rattle.calculus.specs.Rows.{Row, Standing, coef, value, Meets, row_divisor, reduced, same_numbers, same_row, double}
 use Rattle.calculus.proofs.Divisors.{row_divides, row_divisor_plain}
-use Rattle.calculus.proofs.Ints.{assoc, mul_neg, floor_times, floor_one, ceiling_one, rounded_down, rounded_back, sum_times}
-
--- a number is its divisor times a quotient
-pub quotient : (g : ℕ) (c : ℤ) → g ∣ nat_abs c → (q : ℤ) × (c ≡ pos g *ℤ q)
-quotient g (pos a) d = (pos (a / g), let e = mul-div_cancel' g d in omega (arith, ints))
-quotient g (negsuc a) d = (
-  neg_ℤ (pos (suc a / g)),
-  let e = mul-div_cancel' g d in let m = mul_neg (pos g) (pos (suc a / g)) in omega
-      (arith, ints),
-)
+use Rattle.calculus.proofs.Ints.{assoc, floor_times, floor_one, ceiling_one, rounded_down, rounded_back, sum_times, quotient}
 
 pub floor_exact : (g : ℕ) (c : ℤ) → 0 < g → g ∣ nat_abs c → pos g *ℤ floor c g ≡ c
 floor_exact g c p d =

@@ -9,9 +9,9 @@ use Rattle.calculus.specs.Rows.{Row, coef}
 use Rattle.calculus.specs.Tightening.{plus, matches}
 use Rattle.calculus.specs.declared.sides.Side.{Side}
 use Rattle.calculus.specs.declared.sides.Side.TheVariants.{Low, High}
-use Rattle.calculus.proofs.BetterBounds.{at_each, term_zero, sum_same, least_split}
-use Rattle.calculus.proofs.Ints.{distrib, mul_neg, times_le}
-use Rattle.calculus.proofs.Leasts.{sum_plus, sum_but, coef_plus, term_super, mixed}
+use Rattle.calculus.proofs.BetterBounds.{term_zero, sum_same, least_split}
+use Rattle.calculus.proofs.Ints.{distrib, mul_neg, times_le, at_each, mixed}
+use Rattle.calculus.proofs.Leasts.{sum_plus, sum_but, coef_plus, term_super}
 
 -- the coefficient of a tight row at its unknown: -x + .. for a low bound, x - .. for a high one
 abbrev pub unit : Side → ℤ

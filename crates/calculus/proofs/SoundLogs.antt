@@ -28,8 +28,8 @@ use Rattle.calculus.specs.declared.refusals.Refusal.{Refusal}
 use Rattle.calculus.specs.declared.refusals.Refusal.TheVariants.{Operand, Multiplier, Mismatch}
 use Rattle.calculus.proofs.BetterBounds.{sum_same, sum_zero, sum_only}
 use Rattle.calculus.proofs.Good.{CutsWell, Made, Good}
-use Rattle.calculus.proofs.Ints.{distrib, assoc, times_le, rounded_down, sum_times}
-use Rattle.calculus.proofs.Leasts.{sum_plus, coef_added, coef_map, coef_cut, lone_here, lone_else, mixed}
+use Rattle.calculus.proofs.Ints.{distrib, assoc, times_le, rounded_down, sum_times, mixed}
+use Rattle.calculus.proofs.Leasts.{sum_plus, coef_added, coef_map, coef_cut, lone_here, lone_else}
 use Rattle.calculus.proofs.Meeting.{within_each}
 use Rattle.calculus.proofs.Reduction.{floor_exact, same_number_decides, same_row_decides}
 

@@ -17,7 +17,7 @@ use Rattle.calculus.specs.declared.kinds.Kind.TheVariants.{Low as LowLine, High 
 use Rattle.calculus.specs.declared.ranges.Range.{Range}
 use Rattle.calculus.specs.declared.sides.Side.{Side}
 use Rattle.calculus.specs.declared.sides.Side.TheVariants.{Low, High}
-use Rattle.calculus.proofs.BetterBounds.{at_each, coef_without}
+use Rattle.calculus.proofs.BetterBounds.{coef_without}
 use Rattle.calculus.proofs.Covering.{has, CoveredBut, Bare, has_more, matches_zero}
 use Rattle.calculus.proofs.Firm.{InOrder, on_own, low_entry, high_entry, start_firm}
 use Rattle.calculus.proofs.Tabling.{table_long, table_at}
@@ -30,6 +30,7 @@ use Rattle.calculus.proofs.Resolving.{unit, toward, Tight}
 use Rattle.calculus.proofs.Running.{run_keeps}
 use Rattle.calculus.proofs.Stepping.{grown_same}
 use Rattle.calculus.proofs.Tightens.{plain_least}
+use Rattle.calculus.proofs.Ints.{at_each}
 
 -- ---- rows with one coefficient
 

@@ -7,14 +7,25 @@ ghost use Rattle.calculus.specs.Rows.{double, reduced, row_divisor, same_numbers
 
 use crate::arithmetic::{ceil_div, common_divisor, floor_div};
 use crate::rows::RowView;
+use std::marker::Model;
 
-// A row and what it is divided by in its reduced form.
-#[derive(Clone, Copy)]
-struct Reduced<'a> {
+// A row with what it is divided by in its reduced form, so that a row that is compared with many is divided once. A contract sees the row.
+#[derive(Drop)]
+pub struct Reduced<'a> {
     row: RowView<'a>,
     by: u32,
-    ghost divides: { 0 < by },
-    ghost divisor: { by ≡ row_divisor row.coefficients.now },
+}
+
+impl<'a> Model for Reduced<'a> {
+    ghost use Rattle.std.specs.Prelude.{◌≡◌, ◌<◌};
+    ghost use Rattle.calculus.specs.Rows.{Standing, row_divisor};
+    ghost use Rattle.forms.specs.Seen.{seen};
+
+    ghost Value = { Standing };
+
+    ghost view = { λ r. seen r.row };
+
+    ghost invariant = { λ r. (0 < r.by) × (r.by ≡ row_divisor r.row.coefficients.now) };
 }
 
 // What the row is divided by in its reduced form, at least 1.
@@ -36,8 +47,9 @@ fn is_same(y: i64, z: i64) -> bool
 }
 
 impl<'a> Reduced<'a> {
-    fn of(row: RowView<'a>) -> Reduced<'a>
-        ensures { result.row ≡ row.entry }
+    // A row, to be compared.
+    pub fn of(row: RowView<'a>) -> Reduced<'a>
+        ensures { result ≡ seen row.entry }
     {
         Reduced {
             row,
@@ -45,16 +57,19 @@ impl<'a> Reduced<'a> {
         }
     }
 
-    // The constant, divided and rounded up.
-    fn constant(self) -> i64
-        ensures { result ≡ (reduced (seen self.entry.row).row).constant }
+    // The constant, divided and rounded up. A row without a coefficient, as all rows without an unknown are, has the divisor 1.
+    fn constant(&self) -> i64
+        ensures { result ≡ (reduced self.now.row).constant }
     {
-        ceil_div(self.row.constant, self.by)
+        match self.by {
+            1 => i64::from(self.row.constant),
+            by => ceil_div(self.row.constant, by),
+        }
     }
 
     // Whether the coefficients of two reduced forms are equal, pair by pair.
-    fn agrees_with(self, other: Reduced<'_>) -> bool
-        ensures { result ≡ list_all (λ p. same_number (floor p.0 self.entry.by) (floor p.1 other.entry.by)) (zip self.entry.row.coefficients.now other.entry.row.coefficients.now) }
+    fn agrees_with(&self, other: &Reduced<'_>) -> bool
+        ensures { result ≡ list_all (λ p. same_number (floor p.0 (row_divisor self.now.row.coefs)) (floor p.1 (row_divisor other.now.row.coefs))) (zip self.now.row.coefs other.now.row.coefs) }
     {
         self.row.coefficients.iter().zip(other.row.coefficients).all(|(c, d)| is_same(
             floor_div(*c, self.by),
@@ -63,10 +78,17 @@ impl<'a> Reduced<'a> {
     }
 
     // Whether the coefficients of two reduced forms are equal.
-    fn has_coefficients_of(self, other: Reduced<'_>) -> bool
-        ensures { result ≡ same_numbers (reduced (seen self.entry.row).row).coefs (reduced (seen other.entry.row).row).coefs }
+    fn has_coefficients_of(&self, other: &Reduced<'_>) -> bool
+        ensures { result ≡ same_numbers (reduced self.now.row).coefs (reduced other.now.row).coefs }
     {
         self.row.coefficients.len() == other.row.coefficients.len() && self.agrees_with(other)
+    }
+
+    // Whether one row is a double of the other.
+    pub fn is_double(&self, other: &Reduced<'_>) -> bool
+        ensures { result ≡ double self.now other.now }
+    {
+        is_same(self.constant(), other.constant()) && self.has_coefficients_of(other)
     }
 }
 
@@ -75,8 +97,6 @@ impl RowView<'_> {
     pub fn is_double(self, other: RowView<'_>) -> bool
         ensures { result ≡ double (seen self.entry) (seen other.entry) }
     {
-        let left = Reduced::of(self);
-        let right = Reduced::of(other);
-        left.has_coefficients_of(right) && is_same(left.constant(), right.constant())
+        Reduced::of(self).is_double(&Reduced::of(other))
     }
 }

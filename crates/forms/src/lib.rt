@@ -6,4 +6,5 @@ mod doubles;
 mod rows;
 
 pub use arithmetic::is_near;
+pub use doubles::Reduced;
 pub use rows::RowView;

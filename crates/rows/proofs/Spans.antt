@@ -1,19 +1,10 @@
 -- What is a fact of every declared unknown holds of the ranges.
-use Rattle.std.proofs.Common.{◌≤◌, ◌≤ℤ◌, List, slice_index_or}
-use Rattle.std.specs.Prelude.{All, unsigned_abs}
+use Rattle.std.proofs.Common.{List, slice_index_or}
+use Rattle.std.specs.Prelude.{All}
 use Rattle.std.proofs.lemmas.List.Elements.{All-map}
-use Rattle.calculus.specs.Limits.{end_limit}
-use Rattle.calculus.specs.declared.ranges.Range.{Range}
+use Rattle.rows.specs.Spans.{InOrder, Near}
 use Rattle.rows.specs.Store.{ranges_of}
 use Rattle.rows.specs.declared.store.Span.{Span}
-
--- low is at most high
-abbrev pub InOrder : Range → Type 0
-InOrder r = r.low ≤ℤ r.high
-
--- both ends are within their limits
-abbrev pub Near : Range → Type 0
-Near r = (unsigned_abs r.low ≤ end_limit) × (unsigned_abs r.high ≤ end_limit)
 
 pub spans_ordered : (spans : List Span) → All InOrder (ranges_of spans)
 spans_ordered spans = All-map InOrder (λ (s : Span). s.range) spans (λ k d less. (slice_index_or spans k d).ordered)

@@ -3,26 +3,30 @@ ghost use Rattle.std.specs.Prelude.{◌≡◌, ◌≤◌, length};
 ghost use Rattle.calculus.specs.Limits.{most_unknowns};
 ghost use Rattle.forms.specs.Seen.{seen};
 
-use arrayvec::ArrayVec;
 use calculus::MAX_UNKNOWNS;
 use forms::RowView;
 use std::marker::Model;
 
-// It lies in the value itself, with room for as many coefficients as a ticket may have unknowns.
+// A row lies in the value itself, with room for as many coefficients as a ticket may have unknowns: the first `len` are its own.
 #[derive(Drop)]
 pub struct Row {
     label: u8,
-    coefficients: ArrayVec<i32, MAX_UNKNOWNS>,
+    len: usize,
+    coefficients: [i32; MAX_UNKNOWNS],
     constant: i32,
 }
 
 impl Model for Row {
+    ghost use Rattle.std.specs.Prelude.{◌≤◌, take};
     ghost use Rattle.calculus.specs.Account.{standing};
+    ghost use Rattle.calculus.specs.Limits.{most_unknowns};
     ghost use Rattle.calculus.specs.Rows.{Standing};
 
     ghost Value = { Standing };
 
-    ghost view = { λ r. standing r.label r.coefficients.items r.constant };
+    ghost view = { λ r. standing r.label (take r.len r.coefficients) r.constant };
+
+    ghost invariant = { λ r. r.len ≤ most_unknowns };
 }
 
 impl Row {
@@ -31,9 +35,13 @@ impl Row {
         requires { length view.coefficients.now ≤ most_unknowns }
         ensures { result ≡ seen view.entry }
     {
+        let len = view.coefficients.len();
+        let mut coefficients = [0; MAX_UNKNOWNS];
+        coefficients[..len].copy_from_slice(view.coefficients);
         Row {
             label: view.label,
-            coefficients: ArrayVec::try_from(view.coefficients).unwrap(),
+            len,
+            coefficients,
             constant: view.constant,
         }
     }
@@ -44,7 +52,7 @@ impl Row {
     {
         RowView {
             label: self.label,
-            coefficients: self.coefficients.as_slice(),
+            coefficients: &self.coefficients[..self.len],
             constant: self.constant,
         }
     }

@@ -1,8 +1,8 @@
 // A draft only takes unknowns, and settling uses it up.
-ghost use Rattle.std.specs.Prelude.{◌≡◌, ◌≤◌, ◌≤ℤ◌, [], All, IfOk, length, unsigned_abs};
-ghost use Rattle.calculus.specs.Limits.{end_limit, most_unknowns};
-ghost use Rattle.calculus.specs.declared.ranges.Range.{Range as Ends};
+ghost use Rattle.std.specs.Prelude.{◌≡◌, ◌≤◌, [], All, IfOk, length};
+ghost use Rattle.calculus.specs.Limits.{most_unknowns};
 ghost use Rattle.calculus.specs.Account.{declare_answer, declared, settled};
+ghost use Rattle.rows.specs.Spans.{InOrder, Near};
 
 use crate::tickets::Ticket;
 use calculus::Refusal;
@@ -40,15 +40,28 @@ impl Draft {
         ensures answer { result ≡ declare_answer self.old low high }
         ensures ranges { self.new ≡ declared self.old low high }
         ensures few { length self.new ≤ most_unknowns }
-        ensures ordered { All (λ (r : Ends). r.low ≤ℤ r.high) self.new }
-        ensures near { All (λ (r : Ends). (unsigned_abs r.low ≤ end_limit) × (unsigned_abs r.high ≤ end_limit)) self.new }
+        ensures ordered { All InOrder self.new }
+        ensures near { All Near self.new }
     {
         self.blank.declare(low, high)
+    }
+
+    // How many unknowns are declared so far.
+    pub fn unknowns(&self) -> usize
+        ensures value { result ≡ length self.now }
+        ensures few { result ≤ most_unknowns }
+        ensures ordered { All InOrder self.now }
+        ensures near { All Near self.now }
+    {
+        self.blank.unknowns()
     }
 
     // The ticket with these unknowns; no row and no mark stands.
     pub fn settle(self) -> Ticket
         ensures account { result ≡ settled self }
+        ensures few { length self ≤ most_unknowns }
+        ensures ordered { All InOrder self }
+        ensures near { All Near self }
     {
         let Draft { blank } = self;
         Ticket::over(blank.settle())

@@ -9,7 +9,7 @@ ghost use Rattle.forms.specs.Seen.{seen};
 use super::{Mark, Rows};
 use crate::held::Row;
 use calculus::{MAX_COEFFICIENT, MAX_CONSTANT, MAX_MARKS, MAX_ROWS, Refusal};
-use forms::{RowView, is_near};
+use forms::{Reduced, RowView, is_near};
 
 // Whether a coefficient of the list lies outside its limits.
 fn has_heavy(coefficients: &[i32]) -> bool
@@ -32,7 +32,8 @@ impl Rows {
     fn has_double(&self, added: RowView<'_>) -> bool
         ensures { result ≡ doubled self.now.rows (seen added.entry) }
     {
-        self.rows.iter().any(|row| row.view().is_double(added))
+        let added = Reduced::of(added);
+        self.rows.iter().any(|row| Reduced::of(row.view()).is_double(&added))
     }
 
     // One row more, kept as it is given. The constant is wider than in a row that stands, and within its limits where it is

@@ -1,8 +1,8 @@
 // A blank, its unknowns, and settling.
-ghost use Rattle.std.specs.Prelude.{◌≡◌, ◌≤◌, ◌≤ℤ◌, [], All, IfOk, length, unsigned_abs};
-ghost use Rattle.calculus.specs.Limits.{end_limit, most_unknowns};
-ghost use Rattle.calculus.specs.declared.ranges.Range.{Range as Ends};
+ghost use Rattle.std.specs.Prelude.{◌≡◌, ◌≤◌, [], All, IfOk, length};
+ghost use Rattle.calculus.specs.Limits.{most_unknowns};
 ghost use Rattle.calculus.specs.Account.{bad_range, declare_answer, declared, settled};
+ghost use Rattle.rows.specs.Spans.{InOrder, Near};
 
 use super::{Blank, Rows, Span};
 use calculus::{MAX_END, MAX_MARKS, MAX_ROWS, MAX_UNKNOWNS, Range, Refusal};
@@ -32,8 +32,8 @@ impl Blank {
         ensures answer { result ≡ declare_answer self.old low high }
         ensures ranges { self.new ≡ declared self.old low high }
         ensures few { length self.new ≤ most_unknowns }
-        ensures ordered { All (λ (r : Ends). r.low ≤ℤ r.high) self.new }
-        ensures near { All (λ (r : Ends). (unsigned_abs r.low ≤ end_limit) × (unsigned_abs r.high ≤ end_limit)) self.new }
+        ensures ordered { All InOrder self.new }
+        ensures near { All Near self.new }
     {
         let unknown = self.spans.len();
         if unknown >= MAX_UNKNOWNS {
@@ -48,9 +48,22 @@ impl Blank {
         Ok(unknown)
     }
 
+    // How many unknowns are declared so far.
+    pub fn unknowns(&self) -> usize
+        ensures value { result ≡ length self.now }
+        ensures few { result ≤ most_unknowns }
+        ensures ordered { All InOrder self.now }
+        ensures near { All Near self.now }
+    {
+        self.spans.len()
+    }
+
     // Ends the declaring; no row and no mark stands yet.
     pub fn settle(self) -> Rows
         ensures account { result ≡ settled self }
+        ensures few { length self ≤ most_unknowns }
+        ensures ordered { All InOrder self }
+        ensures near { All Near self }
     {
         let Blank { spans, rows, marks } = self;
         Rows { spans, rows, marks }

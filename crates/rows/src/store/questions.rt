@@ -1,9 +1,10 @@
 // Questions, which change nothing.
-ghost use Rattle.std.specs.Prelude.{◌≡◌, ◌≤◌, ◌≤ℤ◌, All, IfSome, length, slice_get, unsigned_abs};
+ghost use Rattle.std.specs.Prelude.{◌≡◌, ◌≤◌, All, IfSome, length, slice_get};
 ghost use Rattle.std.specs.Option.{option_map};
-ghost use Rattle.calculus.specs.Limits.{end_limit, most_marks, most_rows, most_unknowns};
+ghost use Rattle.calculus.specs.Limits.{most_marks, most_rows, most_unknowns};
 ghost use Rattle.calculus.specs.Rows.{Standing};
 ghost use Rattle.forms.specs.Seen.{seen};
+ghost use Rattle.rows.specs.Spans.{InOrder, Near};
 
 use super::Rows;
 use crate::held::Row;
@@ -15,6 +16,8 @@ impl Rows {
     pub fn unknowns(&self) -> usize
         ensures value { result ≡ length self.now.ranges }
         ensures few { result ≤ most_unknowns }
+        ensures ordered { All InOrder self.now.ranges }
+        ensures near { All Near self.now.ranges }
     {
         self.spans.len()
     }
@@ -22,8 +25,8 @@ impl Rows {
     // The range of an unknown, where there is one of that number.
     pub fn range(&self, unknown: usize) -> Option<Range>
         ensures value { result ≡ slice_get self.now.ranges unknown }
-        ensures ordered { IfSome result (λ r. r.low ≤ℤ r.high) }
-        ensures near { IfSome result (λ r. (unsigned_abs r.low ≤ end_limit) × (unsigned_abs r.high ≤ end_limit)) }
+        ensures ordered { IfSome result InOrder }
+        ensures near { IfSome result Near }
     {
         self.spans.get(unknown).map(|span| span.range)
     }

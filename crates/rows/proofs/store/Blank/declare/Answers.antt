@@ -1,6 +1,7 @@
 use Rattle.std.proofs.Common.{subst}
 use Rattle.std.specs.Prelude.{All}
-use Rattle.rows.proofs.Spans.{InOrder, Near, spans_ordered, spans_near}
+use Rattle.rows.proofs.Spans.{spans_ordered, spans_near}
+use Rattle.rows.specs.Spans.{InOrder, Near}
 use Rattle.rows.proofs.store.Blank.declare.Goals as goal
 
 pub returns-then-unknown-ge-MAX_UNKNOWNS-clause-ordered : goal.returns-then-unknown-ge-MAX_UNKNOWNS-clause-ordered

@@ -21,10 +21,8 @@ impl Adviser for Blaming {
         if !ends.have_length(self.names.len()) {
             return None;
         }
-        self.names
-            .iter()
-            .find(|unknown| !ends.is_fixed(**unknown))
-            .map(|unknown| (*unknown, Side::Low))
+        let unknown = self.names.iter().find(|unknown| !ends.is_fixed(**unknown))?;
+        Some((*unknown, Side::Low))
     }
 
     #[tactic(auto, using(crate::proofs::Fronts::told_front, crate::proofs::Fronts::told_nowhere, std::proofs::lemmas::List::with_items_is))]

@@ -9,7 +9,7 @@ use crate::arithmetic::{ceil_div, common_divisor, floor_div};
 use crate::rows::RowView;
 use std::marker::Model;
 
-// A row with what it is divided by in its reduced form, so that a row that is compared with many is divided once. A contract sees the row.
+// A row with what it is divided by in its reduced form: a row that is compared with many has that worked out once. A contract sees the row.
 #[derive(Drop)]
 pub struct Reduced<'a> {
     row: RowView<'a>,
@@ -57,7 +57,7 @@ impl<'a> Reduced<'a> {
         }
     }
 
-    // The constant, divided and rounded up. A row without a coefficient, as all rows without an unknown are, has the divisor 1.
+    // The constant, divided and rounded up. Nothing is divided by 1, the divisor of each row without a coefficient.
     fn constant(&self) -> i64
         ensures { result ≡ (reduced self.now.row).constant }
     {
@@ -84,7 +84,7 @@ impl<'a> Reduced<'a> {
         self.row.coefficients.len() == other.row.coefficients.len() && self.agrees_with(other)
     }
 
-    // Whether one row is a double of the other.
+    // Whether one row is a double of the other. The constants first, which tell most rows apart.
     pub fn is_double(&self, other: &Reduced<'_>) -> bool
         ensures { result ≡ double self.now other.now }
     {

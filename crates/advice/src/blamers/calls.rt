@@ -17,6 +17,7 @@ impl Adviser for Blaming {
         self.names.len()
     }
 
+    // By `?`: with `map` the choice is copied once more, which takes as long as the look.
     fn ask(&self, ends: Ends<'_>) -> Option<(usize, Side)> {
         if !ends.have_length(self.names.len()) {
             return None;

@@ -28,12 +28,14 @@ fn is_overweight(coefficients: &[i32], constant: i64) -> bool
 }
 
 impl Rows {
-    // Whether a double of the row stands.
+    // Whether a double of the row stands. What the row is divided by is worked out once.
     fn has_double(&self, added: RowView<'_>) -> bool
         ensures { result ≡ doubled self.now.rows (seen added.entry) }
     {
         let added = Reduced::of(added);
-        self.rows.iter().any(|row| Reduced::of(row.view()).is_double(&added))
+        self.rows
+            .iter()
+            .any(|row| Reduced::of(row.view()).is_double(&added))
     }
 
     // One row more, kept as it is given. The constant is wider than in a row that stands, and within its limits where it is

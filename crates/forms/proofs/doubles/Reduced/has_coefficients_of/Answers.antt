@@ -1,4 +1,4 @@
-use Rattle.std.proofs.Common.{◌∙◌, arith}
+use Rattle.std.proofs.Common.{arith}
 use Rattle.calculus.specs.Arithmetic.{floor}
 use Rattle.calculus.specs.Rows.{row_divisor}
 use Rattle.forms.proofs.Coefficients.{same_pairs, same_apart}

@@ -28,10 +28,13 @@ fn is_overweight(coefficients: &[i32], constant: i64) -> bool
 }
 
 impl Rows {
-    // Whether a double of the row stands. What the row is divided by is worked out once.
+    // Whether a double of the row stands. What the row is divided by is worked out once, and not at all where no row stands.
     fn has_double(&self, added: RowView<'_>) -> bool
         ensures { result ≡ doubled self.now.rows (seen added.entry) }
     {
+        if self.rows.is_empty() {
+            return false;
+        }
         let added = Reduced::of(added);
         self.rows
             .iter()

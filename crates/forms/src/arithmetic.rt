@@ -10,11 +10,14 @@ pub(crate) fn floor_div(z: i32, by: u32) -> i64
     i64::from(z).div_euclid(i64::from(by))
 }
 
-// z divided by a number above 0, rounded up.
+// z divided by a number above 0, rounded up. Nothing is divided by 1, the divisor of each row without a coefficient.
 pub(crate) fn ceil_div(z: i32, by: u32) -> i64
     requires { 0 < by }
     ensures { result ≡ ceiling z by }
 {
+    if by == 1 {
+        return i64::from(z);
+    }
     -(-i64::from(z)).div_euclid(i64::from(by))
 }
 

@@ -9,15 +9,18 @@ use crate::arithmetic::{ceil_div, common_divisor, floor_div};
 use crate::rows::RowView;
 use std::marker::Model;
 
-// A row with what it is divided by in its reduced form: a row that is compared with many has that worked out once. A contract sees the row.
+// A row with what it is divided by in its reduced form, and with the constant of that form: a row that is compared with many has both
+// worked out once. A contract sees the row.
 #[derive(Drop)]
 pub struct Reduced<'a> {
     row: RowView<'a>,
     by: u32,
+    constant: i64,
 }
 
 impl<'a> Model for Reduced<'a> {
     ghost use Rattle.std.specs.Prelude.{◌≡◌, ◌<◌};
+    ghost use Rattle.calculus.specs.Arithmetic.{ceiling};
     ghost use Rattle.calculus.specs.Rows.{Standing, row_divisor};
     ghost use Rattle.forms.specs.Seen.{seen};
 
@@ -25,7 +28,7 @@ impl<'a> Model for Reduced<'a> {
 
     ghost view = { λ r. seen r.row };
 
-    ghost invariant = { λ r. (0 < r.by) × (r.by ≡ row_divisor r.row.coefficients.now) };
+    ghost invariant = { λ r. (0 < r.by) × (r.by ≡ row_divisor r.row.coefficients.now) × (r.constant ≡ ceiling r.row.constant r.by) };
 }
 
 // What the row is divided by in its reduced form, at least 1.
@@ -51,19 +54,11 @@ impl<'a> Reduced<'a> {
     pub fn of(row: RowView<'a>) -> Reduced<'a>
         ensures { result ≡ seen row.entry }
     {
+        let by = divisor_of(row.coefficients);
         Reduced {
             row,
-            by: divisor_of(row.coefficients),
-        }
-    }
-
-    // The constant, divided and rounded up. Nothing is divided by 1, the divisor of each row without a coefficient.
-    fn constant(&self) -> i64
-        ensures { result ≡ (reduced self.now.row).constant }
-    {
-        match self.by {
-            1 => i64::from(self.row.constant),
-            by => ceil_div(self.row.constant, by),
+            by,
+            constant: ceil_div(row.constant, by),
         }
     }
 
@@ -88,7 +83,7 @@ impl<'a> Reduced<'a> {
     pub fn is_double(&self, other: &Reduced<'_>) -> bool
         ensures { result ≡ double self.now other.now }
     {
-        is_same(self.constant(), other.constant()) && self.has_coefficients_of(other)
+        is_same(self.constant, other.constant) && self.has_coefficients_of(other)
     }
 }
 
